@@ -1,0 +1,4 @@
+pub mod Bits
+pub mod Operations
+pub mod Refusals
+pub mod Modes

@@ -1,0 +1,4 @@
+pub mod Meaning
+pub mod Rects
+pub mod Drawing
+pub mod Facts
