@@ -37,20 +37,20 @@ a-brush : (style colour hatch : ℕ) → ((b : Brush) × BrushIs style colour ha
 a-brush style colour hatch =
     ⊎-elim (λ e. inl (brush.Solid colour, (e, refl)))
     (λ n. ⊎-elim
-      (λ e. ⊎-elim
-        (λ h. inl (brush.Hatched (styleAt hatch) colour, (e, style-number hatch h, refl)))
-        (λ h. inr (n, λ _ l. omega arith))
-        (cases-lt hatch 6))
-      (λ m. inr (n, λ e. absurd (m e)))
-      (cases-eq style 2))
+    (λ e. ⊎-elim
+    (λ h. inl (brush.Hatched (styleAt hatch) colour, (e, style-number hatch h, refl)))
+    (λ h. inr (n, λ _ l. omega arith))
+    (cases-lt hatch 6))
+    (λ m. inr (n, λ e. absurd (m e)))
+    (cases-eq style 2))
     (cases-eq style 0)
 
 a-pen : (style : ℕ) (width : ℤ) (colour : ℕ) → ((p : Pen) × PenIs style width colour p) ⊎ NoPen style width
 a-pen style width colour =
     ⊎-elim
     (λ t. ⊎-elim (λ e. inl (pen.Solid colour, (e, t .1, refl)))
-      (λ n. ⊎-elim (λ e. inl (pen.Null, (e, t .1))) (λ m. inr (λ _. (n, m))) (cases-eq style 5))
-      (cases-eq style 0))
+    (λ n. ⊎-elim (λ e. inl (pen.Null, (e, t .1))) (λ m. inr (λ _. (n, m))) (cases-eq style 5))
+    (cases-eq style 0))
     (λ t. inr (λ h. absurd (t .1 h)))
     (thin-tells width)
 
@@ -67,16 +67,18 @@ pat-blt : (ps : List ℕ) → Outcome 0x061D ps
 pat-blt ps =
     ⊎-elim
     (λ e. ⊎-elim
-      (λ low. ⊎-elim
-        (λ s. inr (refusal.Operation, inl (refl, e, inr s)))
-        (λ s. ⊎-elim
-          (λ n. inr (refusal.Value, inr (inr (inr (inl (refl, e, low, s, n))))))
-          (λ p. inl (shown.PatBlt (word ps 2) (signed ps 10) (signed ps 8) (signed ps 6) (signed ps 4),
-            (refl, e, (low, refl), s, refl, refl, refl, refl, p .0, p .1)))
-          (signs (signed ps 6) (signed ps 4)))
-        (cases-bool (sourced (word ps 2))))
-      (λ high. inr (refusal.Operation, inl (refl, e, inl high)))
-      (cases-lt (word ps 2) 256))
+    (λ low. ⊎-elim
+    (λ s. inr (refusal.Operation, inl (refl, e, inr s)))
+    (λ s. ⊎-elim
+    (λ n. inr (refusal.Value, inr (inr (inr (inl (refl, e, low, s, n))))))
+    (λ p. inl (
+      shown.PatBlt (word ps 2) (signed ps 10) (signed ps 8) (signed ps 6) (signed ps 4),
+      (refl, e, (low, refl), s, refl, refl, refl, refl, p .0, p .1),
+    ))
+    (signs (signed ps 6) (signed ps 4)))
+    (cases-bool (sourced (word ps 2))))
+    (λ high. inr (refusal.Operation, inl (refl, e, inl high)))
+    (cases-lt (word ps 2) 256))
     (λ n. inr (refusal.RecordSize, inr (inr (inl (refl, n)))))
     (cases-eq (length ps) 12)
 
@@ -84,13 +86,15 @@ bit-blt : (ps : List ℕ) → Outcome 0x0922 ps
 bit-blt ps =
     ⊎-elim
     (λ e. ⊎-elim
-      (λ low. ⊎-elim
-        (λ n. inr (refusal.Value, inr (inr (inr (inr (refl, e, low, n))))))
-        (λ p. inl (shown.BitBlt (word ps 2) (signed ps 16) (signed ps 14) (signed ps 12) (signed ps 10) (signed ps 6) (signed ps 4),
-          (refl, e, (low, refl), refl, refl, refl, refl, refl, refl, p .0, p .1)))
-        (signs (signed ps 12) (signed ps 10)))
-      (λ high. inr (refusal.Operation, inr (refl, e, high)))
-      (cases-lt (word ps 2) 256))
+    (λ low. ⊎-elim
+    (λ n. inr (refusal.Value, inr (inr (inr (inr (refl, e, low, n))))))
+    (λ p. inl (
+      shown.BitBlt (word ps 2) (signed ps 16) (signed ps 14) (signed ps 12) (signed ps 10) (signed ps 6) (signed ps 4),
+      (refl, e, (low, refl), refl, refl, refl, refl, refl, refl, p .0, p .1),
+    ))
+    (signs (signed ps 12) (signed ps 10)))
+    (λ high. inr (refusal.Operation, inr (refl, e, high)))
+    (cases-lt (word ps 2) 256))
     (λ n. inr (refusal.RecordSize, inr (inr (inr (inl (refl, n))))))
     (cases-eq (length ps) 18)
 
@@ -106,26 +110,26 @@ rop2 ps e =
     ⊎-elim
     (λ low. inr (refusal.Value, inl (refl, e, λ l _. omega arith)))
     (λ l. ⊎-elim
-      (λ high. inr (refusal.Value, inl (refl, e, λ _ h. omega arith)))
-      (λ h. inl (shown.SetRop2 (modeAt (word ps 0)), (refl, e, mode-number (word ps 0) l h)))
-      (cases-lt 16 (word ps 0)))
+    (λ high. inr (refusal.Value, inl (refl, e, λ _ h. omega arith)))
+    (λ h. inl (shown.SetRop2 (modeAt (word ps 0)), (refl, e, mode-number (word ps 0) l h)))
+    (cases-lt 16 (word ps 0)))
     (cases-lt (word ps 0) 1)
 
 set-rop2 : (ps : List ℕ) → Outcome 0x0104 ps
 set-rop2 ps =
     ⊎-elim (λ e. rop2 ps (inl e))
     (λ n. ⊎-elim (λ e. rop2 ps (inr e))
-      (λ m. inr (refusal.RecordSize, inr (inr (inr (inr (inr (inl (refl, n, m))))))))
-      (cases-eq (length ps) 4))
+    (λ m. inr (refusal.RecordSize, inr (inr (inr (inr (inr (inl (refl, n, m))))))))
+    (cases-eq (length ps) 4))
     (cases-eq (length ps) 2)
 
 set-bk-color : (ps : List ℕ) → Outcome 0x0201 ps
 set-bk-color ps =
     ⊎-elim
     (λ e. ⊎-elim
-      (λ u. inl (shown.SetBkColor (word ps 0), (refl, e, u, refl)))
-      (λ u. inr (refusal.Colour, inl (refl, e, u)))
-      (cases-eq (word ps 2) 0x0100))
+    (λ u. inl (shown.SetBkColor (word ps 0), (refl, e, u, refl)))
+    (λ u. inr (refusal.Colour, inl (refl, e, u)))
+    (cases-eq (word ps 2) 0x0100))
     (λ n. inr (refusal.RecordSize, inr (inr (inr (inr (inr (inr (inl (refl, n)))))))))
     (cases-eq (length ps) 4)
 
@@ -133,12 +137,12 @@ create-brush : (ps : List ℕ) → Outcome 0x02FC ps
 create-brush ps =
     ⊎-elim
     (λ e. ⊎-elim
-      (λ u. ⊎-elim
-        (λ b. inl (shown.CreateBrushIndirect (b .0), (refl, e, u, b .1)))
-        (λ n. inr (refusal.Value, inr (inl (refl, e, u, n))))
-        (a-brush (word ps 0) (word ps 2) (word ps 6)))
-      (λ u. inr (refusal.Colour, inr (inl (refl, e, u))))
-      (cases-eq (word ps 4) 0x0100))
+    (λ u. ⊎-elim
+    (λ b. inl (shown.CreateBrushIndirect (b .0), (refl, e, u, b .1)))
+    (λ n. inr (refusal.Value, inr (inl (refl, e, u, n))))
+    (a-brush (word ps 0) (word ps 2) (word ps 6)))
+    (λ u. inr (refusal.Colour, inr (inl (refl, e, u))))
+    (cases-eq (word ps 4) 0x0100))
     (λ n. inr (refusal.RecordSize, inr (inr (inr (inr (inr (inr (inr (inl (refl, n))))))))))
     (cases-eq (length ps) 8)
 
@@ -146,12 +150,12 @@ create-pen : (ps : List ℕ) → Outcome 0x02FA ps
 create-pen ps =
     ⊎-elim
     (λ e. ⊎-elim
-      (λ u. ⊎-elim
-        (λ p. inl (shown.CreatePenIndirect (p .0), (refl, e, u, p .1)))
-        (λ n. inr (refusal.Value, inr (inr (inl (refl, e, u, n)))))
-        (a-pen (word ps 0) (signed ps 2) (word ps 6)))
-      (λ u. inr (refusal.Colour, inr (inr (refl, e, u))))
-      (cases-eq (word ps 8) 0x0100))
+    (λ u. ⊎-elim
+    (λ p. inl (shown.CreatePenIndirect (p .0), (refl, e, u, p .1)))
+    (λ n. inr (refusal.Value, inr (inr (inl (refl, e, u, n)))))
+    (a-pen (word ps 0) (signed ps 2) (word ps 6)))
+    (λ u. inr (refusal.Colour, inr (inr (refl, e, u))))
+    (cases-eq (word ps 8) 0x0100))
     (λ n. inr (refusal.RecordSize, inr (inr (inr (inr (inr (inr (inr (inr (inl (refl, n)))))))))))
     (cases-eq (length ps) 10)
 

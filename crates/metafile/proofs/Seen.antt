@@ -78,9 +78,9 @@ seen f ps q =
     (cond (eqb f 0x0213) (point shown.LineTo ps)
     (cond (eqb f 0x0214) (point shown.MoveTo ps)
     (cond (eqb f 0x061D) (sized (eqb (length ps) 12) (coded (word ps 2) (sourced (word ps 2)) (measured (signed ps 6) (signed ps 4)
-      (Ok (shown.PatBlt (word ps 2) (signed ps 10) (signed ps 8) (signed ps 6) (signed ps 4))))))
+    (Ok (shown.PatBlt (word ps 2) (signed ps 10) (signed ps 8) (signed ps 6) (signed ps 4))))))
     (cond (eqb f 0x0922) (sized (eqb (length ps) 18) (coded (word ps 2) false (measured (signed ps 12) (signed ps 10)
-      (Ok (shown.BitBlt (word ps 2) (signed ps 16) (signed ps 14) (signed ps 12) (signed ps 10) (signed ps 6) (signed ps 4))))))
+    (Ok (shown.BitBlt (word ps 2) (signed ps 16) (signed ps 14) (signed ps 12) (signed ps 10) (signed ps 6) (signed ps 4))))))
     (cond (eqb f 0x0416) (sized (eqb (length ps) 8) (Ok (shown.IntersectClipRect (signed ps 6) (signed ps 4) (signed ps 2) (signed ps 0))))
     (cond (eqb f 0x0104) (sized (eqb (length ps) 2 || eqb (length ps) 4) (numbered (word ps 0)))
     (cond (eqb f 0x0201) (sized (eqb (length ps) 4) (coloured (word ps 2) (Ok (shown.SetBkColor (word ps 0)))))
@@ -161,7 +161,7 @@ pen-seen style width colour pen.Null h =
 no-pen : (style : ℕ) (width : ℤ) (colour : ℕ) → NoPen style width → penned style width colour ≡ Err refusal.Value
 no-pen style width colour h =
     elim (thin-tells width) [
-      inl t ↦ let n = h (t .1) in let e = t .0 in grind (arith, tells)
+      | inl t ↦ let n = h (t .1) in let e = t .0 in grind (arith, tells)
       | inr t ↦ let e = t .0 in grind (arith, tells)
     ]
 
@@ -236,8 +236,8 @@ apart a r e p q = let z : _≡_ {A = ℕ} 0 1 = cc in omega arith
 
 -- a listed record is what is seen, whatever slice an unlisted one would refer to
 pub seen-record : (f : ℕ) (ps : List ℕ) (r : Record) → Shows f ps r
-  → ((q : RefT (List ℕ)) → seen f ps q ≡ Ok r)
-  ⊎ ((p : RefT (List ℕ)) × (r ≡ shown.Unlisted f p) × (p .now ≡ ps) × ((q : RefT (List ℕ)) → seen f ps q ≡ Ok (shown.Unlisted f q)))
+    → ((q : RefT (List ℕ)) → seen f ps q ≡ Ok r)
+    ⊎ ((p : RefT (List ℕ)) × (r ≡ shown.Unlisted f p) × (p .now ≡ ps) × ((q : RefT (List ℕ)) → seen f ps q ≡ Ok (shown.Unlisted f q)))
 seen-record f ps shown.End h = inl (λ q. at f 0x0000 ps q (Ok shown.End) (h .0) (right (length ps) 0 _ (h .1)))
 seen-record f ps (shown.SetWindowOrg x y) h = inl (λ q. at f 0x020B ps q _ (h .0) (point-seen shown.SetWindowOrg ps x y (h .1)))
 seen-record f ps (shown.SetViewportOrg x y) h = inl (λ q. at f 0x020D ps q _ (h .0) (point-seen shown.SetViewportOrg ps x y (h .1)))
@@ -298,19 +298,19 @@ one-cause f ps d e h k =
 pub not-both : (f : ℕ) (ps : List ℕ) (r : Record) (e : Refusal) → Shows f ps r → Breaks f ps e → ⊥
 not-both f ps r e h k =
     elim (seen-record f ps r h) [
-      inl a ↦ apart (seen f ps slice) r e (a slice) (seen-cause f ps e slice k)
+      | inl a ↦ apart (seen f ps slice) r e (a slice) (seen-cause f ps e slice k)
       | inr a ↦ apart (seen f ps slice) (shown.Unlisted f slice) e (a .3 slice) (seen-cause f ps e slice k)
     ]
 
 pub one-record : (f : ℕ) (ps : List ℕ) (r s : Record) → Shows f ps r → Shows f ps s → (r ≡ s) ⊎ Elsewhere r s
 one-record f ps r s h k =
     elim (seen-record f ps r h) [
-      inl a ↦ elim (seen-record f ps s k) [
-        inl b ↦ inl (alike-records (seen f ps slice) r s (a slice) (b slice))
+      | inl a ↦ elim (seen-record f ps s k) [
+        | inl b ↦ inl (alike-records (seen f ps slice) r s (a slice) (b slice))
         | inr b ↦ inl (alike-records (seen f ps (b .0)) r s (a (b .0)) (b .3 (b .0) ∙ ap Ok (sym (b .1))))
       ]
       | inr a ↦ elim (seen-record f ps s k) [
-        inl b ↦ inl (alike-records (seen f ps (a .0)) r s (a .3 (a .0) ∙ ap Ok (sym (a .1))) (b (a .0)))
+        | inl b ↦ inl (alike-records (seen f ps (a .0)) r s (a .3 (a .0) ∙ ap Ok (sym (a .1))) (b (a .0)))
         | inr b ↦ inr (f, a .0, b .0, a .1, b .1, a .2 ∙ sym (b .2))
       ]
     ]

@@ -10,25 +10,38 @@ use crate::bytes::i16_at;
 use crate::bytes::u16_at;
 use crate::frame::Frame;
 use crate::record::Record;
-use codes::depends_on_source;
 use codes::LineMode;
 use codes::Refusal;
+use codes::depends_on_source;
 use pencil::Brush;
 use pencil::Pen;
 
 const EOF: u16 = 0x0000;
+
 const SETROP2: u16 = 0x0104;
+
 const SELECTOBJECT: u16 = 0x012D;
+
 const DELETEOBJECT: u16 = 0x01F0;
+
 const SETBKCOLOR: u16 = 0x0201;
+
 const SETWINDOWORG: u16 = 0x020B;
+
 const SETVIEWPORTORG: u16 = 0x020D;
+
 const LINETO: u16 = 0x0213;
+
 const MOVETO: u16 = 0x0214;
+
 const CREATEPENINDIRECT: u16 = 0x02FA;
+
 const CREATEBRUSHINDIRECT: u16 = 0x02FC;
+
 const INTERSECTCLIPRECT: u16 = 0x0416;
+
 const PATBLT: u16 = 0x061D;
+
 const BITBLT: u16 = 0x0922;
 
 // What a framed record asks for, or the first rule that it breaks.
@@ -68,7 +81,10 @@ pub fn decode<'a>(frame: Frame<'a>) -> Result<Record<'a>, Refusal>
         CREATEPENINDIRECT => create_pen_indirect(p),
         SELECTOBJECT => Ok(Record::SelectObject { index: index(p)? }),
         DELETEOBJECT => Ok(Record::DeleteObject { index: index(p)? }),
-        function => Ok(Record::Unlisted { function, parameters: p }),
+        function => Ok(Record::Unlisted {
+            function,
+            parameters: p,
+        }),
     }
 }
 
@@ -113,7 +129,9 @@ fn set_bk_color(p: &[u8]) -> Result<Record<'_>, Refusal>
     if p.len() != 4 {
         return Err(Refusal::RecordSize);
     }
-    Ok(Record::SetBkColor { colour: colour_at(p, 0)? })
+    Ok(Record::SetBkColor {
+        colour: colour_at(p, 0)?,
+    })
 }
 
 fn set_rop2(p: &[u8]) -> Result<Record<'_>, Refusal>
@@ -122,7 +140,9 @@ fn set_rop2(p: &[u8]) -> Result<Record<'_>, Refusal>
     if p.len() != 2 && p.len() != 4 {
         return Err(Refusal::RecordSize);
     }
-    Ok(Record::SetRop2 { mode: LineMode::new(u16_at(p, 0))? })
+    Ok(Record::SetRop2 {
+        mode: LineMode::new(u16_at(p, 0))?,
+    })
 }
 
 fn create_brush_indirect(p: &[u8]) -> Result<Record<'_>, Refusal>
@@ -176,7 +196,13 @@ fn pat_blt(p: &[u8]) -> Result<Record<'_>, Refusal>
     if width < 0 || height < 0 {
         return Err(Refusal::Value);
     }
-    Ok(Record::PatBlt { code: upper as u8, x: i16_at(p, 10), y: i16_at(p, 8), width, height })
+    Ok(Record::PatBlt {
+        code: upper as u8,
+        x: i16_at(p, 10),
+        y: i16_at(p, 8),
+        width,
+        height,
+    })
 }
 
 fn bit_blt(p: &[u8]) -> Result<Record<'_>, Refusal>

@@ -17,12 +17,21 @@ pub fn frame_at(bytes: &[u8], place: usize) -> Result<Frame<'_>, FileFault>
     ensures { λ r. ⌜ Cases r (Framed (now (bytes .entry)) place) (Unframed (now (bytes .entry)) place) ⌝ }
 {
     if bytes.len() < 6 || place > bytes.len() - 6 {
-        return Err(FileFault { cause: Refusal::Frame, place });
+        return Err(FileFault {
+            cause: Refusal::Frame,
+            place,
+        });
     }
     let size = u32_at(bytes, place) as usize;
     if size < 3 || size > (bytes.len() - place) / 2 {
-        return Err(FileFault { cause: Refusal::Frame, place });
+        return Err(FileFault {
+            cause: Refusal::Frame,
+            place,
+        });
     }
     let end = place + 2 * size;
-    Ok(Frame { function: u16_at(bytes, place + 4), parameters: &bytes[place + 6..end] })
+    Ok(Frame {
+        function: u16_at(bytes, place + 4),
+        parameters: &bytes[place + 6..end],
+    })
 }

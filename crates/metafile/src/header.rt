@@ -12,13 +12,23 @@ pub fn check(file: &[u8]) -> Result<Checked<'_>, FileFault>
     ensures { λ r. ⌜ Cases r (Accepted (now (file .entry))) (Refused (now (file .entry))) ⌝ }
 {
     if file.len() < 18 || file.len() > 65536 {
-        return Err(FileFault { cause: Refusal::FileLength, place: 0 });
+        return Err(FileFault {
+            cause: Refusal::FileLength,
+            place: 0,
+        });
     }
     if !header_stands(file) {
-        return Err(FileFault { cause: Refusal::Header, place: 0 });
+        return Err(FileFault {
+            cause: Refusal::Header,
+            place: 0,
+        });
     }
     let end = 2 * u32_at(file, 6) as usize;
-    Ok(Checked { bytes: &file[0..end], objects: u16_at(file, 10), first: 18 })
+    Ok(Checked {
+        bytes: &file[0..end],
+        objects: u16_at(file, 10),
+        first: 18,
+    })
 }
 
 fn header_stands(file: &[u8]) -> bool

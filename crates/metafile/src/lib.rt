@@ -7,6 +7,8 @@ mod frame;
 mod header;
 mod names;
 mod record;
+#[cfg(test)]
+mod tests;
 
 pub use checked::Checked;
 pub use decoding::decode;
@@ -19,8 +21,8 @@ pub use fault::Layer;
 pub use fault::LayerDebug;
 pub use fault::LayerEq;
 pub use fault::LayerPartialEq;
-pub use frame::frame_at;
 pub use frame::Frame;
+pub use frame::frame_at;
 pub use header::check;
 pub use names::record_name;
 pub use record::Record;
