@@ -9,6 +9,7 @@ ghost use Rattle.metafile.specs.Decoding.{PointIs, Coloured, Shows, Breaks};
 use crate::bytes::i16_at;
 use crate::bytes::u16_at;
 use crate::frame::Frame;
+use crate::function::*;
 use crate::record::Record;
 use codes::LineMode;
 use codes::Refusal;
@@ -16,71 +17,43 @@ use codes::depends_on_source;
 use pencil::Brush;
 use pencil::Pen;
 
-const EOF: u16 = 0x0000;
-
-const SETROP2: u16 = 0x0104;
-
-const SELECTOBJECT: u16 = 0x012D;
-
-const DELETEOBJECT: u16 = 0x01F0;
-
-const SETBKCOLOR: u16 = 0x0201;
-
-const SETWINDOWORG: u16 = 0x020B;
-
-const SETVIEWPORTORG: u16 = 0x020D;
-
-const LINETO: u16 = 0x0213;
-
-const MOVETO: u16 = 0x0214;
-
-const CREATEPENINDIRECT: u16 = 0x02FA;
-
-const CREATEBRUSHINDIRECT: u16 = 0x02FC;
-
-const INTERSECTCLIPRECT: u16 = 0x0416;
-
-const PATBLT: u16 = 0x061D;
-
-const BITBLT: u16 = 0x0922;
-
 // What a framed record asks for, or the first rule that it breaks.
 pub fn decode<'a>(frame: Frame<'a>) -> Result<Record<'a>, Refusal>
     ensures { λ r. ⌜ Cases r (Shows (frame .entry .function) (frame .entry .parameters .now)) (Breaks (frame .entry .function) (frame .entry .parameters .now)) ⌝ }
 {
     let p = frame.parameters;
     match frame.function {
-        EOF => {
+        META_EOF => {
             if !p.is_empty() {
                 return Err(Refusal::RecordSize);
             }
             Ok(Record::End)
         }
-        SETWINDOWORG => {
+        META_SETWINDOWORG => {
             let (x, y) = point(p)?;
             Ok(Record::SetWindowOrg { x, y })
         }
-        SETVIEWPORTORG => {
+        META_SETVIEWPORTORG => {
             let (x, y) = point(p)?;
             Ok(Record::SetViewportOrg { x, y })
         }
-        MOVETO => {
+        META_MOVETO => {
             let (x, y) = point(p)?;
             Ok(Record::MoveTo { x, y })
         }
-        LINETO => {
+        META_LINETO => {
             let (x, y) = point(p)?;
             Ok(Record::LineTo { x, y })
         }
-        PATBLT => pat_blt(p),
-        BITBLT => bit_blt(p),
-        INTERSECTCLIPRECT => intersect_clip_rect(p),
-        SETROP2 => set_rop2(p),
-        SETBKCOLOR => set_bk_color(p),
-        CREATEBRUSHINDIRECT => create_brush_indirect(p),
-        CREATEPENINDIRECT => create_pen_indirect(p),
-        SELECTOBJECT => Ok(Record::SelectObject { index: index(p)? }),
-        DELETEOBJECT => Ok(Record::DeleteObject { index: index(p)? }),
+        META_PATBLT => pat_blt(p),
+        META_BITBLT => bit_blt(p),
+        META_INTERSECTCLIPRECT => intersect_clip_rect(p),
+        META_SETROP2 => set_rop2(p),
+        META_SETBKCOLOR => set_bk_color(p),
+        META_CREATEBRUSHINDIRECT => create_brush_indirect(p),
+        META_CREATEPENINDIRECT => create_pen_indirect(p),
+        META_SELECTOBJECT => Ok(Record::SelectObject { index: index(p)? }),
+        META_DELETEOBJECT => Ok(Record::DeleteObject { index: index(p)? }),
         function => Ok(Record::Unlisted {
             function,
             parameters: p,

@@ -4,6 +4,7 @@ mod checked;
 mod decoding;
 mod fault;
 mod frame;
+mod function;
 mod header;
 mod names;
 mod record;
