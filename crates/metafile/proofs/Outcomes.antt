@@ -1,26 +1,25 @@
 -- Every function with its parameters shows a record or breaks a rule.
 use mathlib.Core.Path.{_≡_, refl, sym, subst}
-use mathlib.Core.Bool.{Bool, true, false}
 use mathlib.Core.List.{List}
 use mathlib.Core.Logic.{_⊎_, inl, inr, ⊎-elim}
-use Prim.Native.Nat.{ℕ, _+_, _≤_, _<_}
+use Prim.Native.Nat.{ℕ, _≤_}
 use native.Mathlib.Omega.{arith}
 use lib.IntN.{ℤ, pos, negsuc}
-use lib.Signed.{_<ℤ_, _≤ℤ_}
+use lib.Signed.{_≤ℤ_}
 use lib.ListN.{length}
 use Rattle.std.proofs.shelf.Tests.{cases-eq, cases-lt, cases-bool}
 use Rattle.std.proofs.shelf.Signed.{ints}
 use Rattle.codes.specs.Operations.{sourced}
 use Rattle.codes.specs.declared.refusal.Refusal.{Refusal}
 use Rattle.codes.specs.declared.refusal.Refusal.the-variants as refusal
-use Rattle.pencil.specs.Tools.{Thin, PenIs, NoPen, BrushIs, NoBrush}
+use Rattle.pencil.specs.Tools.{PenIs, NoPen, BrushIs, NoBrush}
 use Rattle.pencil.specs.declared.brush.Brush.{Brush}
 use Rattle.pencil.specs.declared.brush.Brush.the-variants as brush
 use Rattle.pencil.specs.declared.pen.Pen.{Pen}
 use Rattle.pencil.specs.declared.pen.Pen.the-variants as pen
 use Rattle.metafile.specs.Bytes.{word, signed}
 use Rattle.metafile.specs.Functions.{Pointed, Indexed, Listed}
-use Rattle.metafile.specs.Decoding.{PointIs, Coloured, Negative, Shows, Breaks}
+use Rattle.metafile.specs.Decoding.{PointIs, Negative, Shows, Breaks}
 use Rattle.metafile.specs.declared.record.Record.{Record}
 use Rattle.metafile.specs.declared.record.Record.the-variants as shown
 use Rattle.metafile.proofs.Numbered.{modeAt, mode-number, styleAt, style-number, thin-tells}

@@ -29,9 +29,11 @@ Coloured ps i = word ps (i + 2) ≡ 0x0100
 abbrev pub Coded : List ℕ → ℕ → ℕ → Type 0
 Coded ps i code = (word ps (i + 2) < 256) × (code ≡ word ps (i + 2))
 
+-- a width or a height below 0
 abbrev pub Negative : ℤ → ℤ → Type 0
 Negative width height = (width <ℤ pos 0) ⊎ (height <ℤ pos 0)
 
+-- the record that is asked for
 abbrev pub Shows : ℕ → List ℕ → Record → Type 0
 Shows f ps shown.End = (f ≡ 0x0000) × (length ps ≡ 0)
 Shows f ps (shown.SetWindowOrg x y) = (f ≡ 0x020B) × PointIs ps x y
@@ -80,7 +82,7 @@ BreaksValue f ps =
     ⊎ ((f ≡ 0x061D) × (length ps ≡ 12) × (word ps 2 < 256) × (sourced (word ps 2) ≡ false) × Negative (signed ps 6) (signed ps 4))
     ⊎ ((f ≡ 0x0922) × (length ps ≡ 18) × (word ps 2 < 256) × Negative (signed ps 12) (signed ps 10))
 
--- the first rule that the record breaks, in the order of the causes
+-- the first rule that the record breaks, in the order of the causes' numbers
 abbrev pub Breaks : ℕ → List ℕ → Refusal → Type 0
 Breaks f ps refusal.Size = ⊥
 Breaks f ps refusal.Memory = ⊥

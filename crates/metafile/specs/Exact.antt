@@ -14,6 +14,7 @@ abbrev pub Elsewhere : Record → Record → Type 0
 Elsewhere r s =
     (f : ℕ) × (p : RefT (List ℕ)) × (q : RefT (List ℕ)) × (r ≡ shown.Unlisted f p) × (s ≡ shown.Unlisted f q) × (p .now ≡ q .now)
 
+-- There is a record or a cause; two records are one (but for where an unlisted one's bytes lie), two causes are one, and there is never a record with a cause.
 pub record Exact : Type 0 where
   pub some : (f : ℕ) (ps : List ℕ) → ((r : Record) × Shows f ps r) ⊎ ((e : Refusal) × Breaks f ps e)
   pub one-record : (f : ℕ) (ps : List ℕ) (r s : Record) → Shows f ps r → Shows f ps s → (r ≡ s) ⊎ Elsewhere r s

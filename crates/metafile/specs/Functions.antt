@@ -26,7 +26,7 @@ Listed f =
     ⊎ (f ≡ 0x02FA)
     ⊎ Indexed f
 
--- n bytes of parameters are wrong for the listed function f
+-- n bytes of parameters are wrong for the listed function f (a record of w words has 2 * w - 6 of them)
 abbrev pub Missized : ℕ → ℕ → Type 0
 Missized f n =
     ((f ≡ 0x0000) × (n ≡ 0 → ⊥))
