@@ -1,0 +1,5 @@
+mod Every
+mod Painting
+mod Clips
+mod Layouts
+mod PackedPictures

@@ -1,0 +1,4 @@
+pub mod Bits
+pub mod Layout
+pub mod Packing
+pub mod Soundness
