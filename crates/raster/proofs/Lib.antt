@@ -3,3 +3,4 @@ mod Painting
 mod Clips
 mod Layouts
 mod PackedPictures
+mod BytePictures

@@ -11,6 +11,7 @@ use lib.IntN.{ℤ, pos, natAbs}
 use lib.ListN.{length, getD}
 use Rattle.surface.specs.Meaning.{Meaning, Frame, Sound, spans, inside, frame}
 use Rattle.raster.specs.Bits.{bitOf}
+use Rattle.raster.specs.Bytewise.{bytewise, bytewise-rest}
 use Rattle.raster.specs.Layout.{laid, has, row-there, Untouched}
 use Rattle.raster.specs.Packing.{stride, there, packed, packed-rest}
 
@@ -58,4 +59,14 @@ pub packed-stays : (w h : ℕ) (m : List ℕ) (l : GName) (w′ h′ : ℕ) (m�
     → packed-rest w h m l ≡ packed-rest w′ h′ m′ l′ → frame (packed w h m) ≡ frame (packed w′ h′ m′)
 packed-stays w h m l w′ h′ m′ l′ e =
     let f : Untouched → Frame = λ r. record { width = r .width; height = r .height; depth = 1; opens = has (r .width) (r .height) (row-there (stride (r .width)) (r .bytes)) } in
+    ap f e
+
+pub bytewise-sound : (w h : ℕ) (m : List ℕ) → Sides w h → Sound (bytewise w h m)
+bytewise-sound w h m sides =
+    laid-sound w h w 8 (row-there w (length m)) (λ i. getD m i 0 % 256) sides (omega arith) (omega arith) (omega arith) (λ i. omega arith)
+
+pub bytewise-stays : (w h : ℕ) (m : List ℕ) (l : GName) (w′ h′ : ℕ) (m′ : List ℕ) (l′ : GName)
+    → bytewise-rest w h m l ≡ bytewise-rest w′ h′ m′ l′ → frame (bytewise w h m) ≡ frame (bytewise w′ h′ m′)
+bytewise-stays w h m l w′ h′ m′ l′ e =
+    let f : Untouched → Frame = λ r. record { width = r .width; height = r .height; depth = 8; opens = has (r .width) (r .height) (row-there (r .width) (r .bytes)) } in
     ap f e

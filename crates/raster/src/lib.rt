@@ -1,9 +1,13 @@
 // Surfaces over a caller's memory.
 mod bits;
+mod bytes;
 mod packed;
 mod rows;
 mod size;
 
+pub use bytes::Bytes;
+pub use bytes::BytesSurface;
+pub use bytes::bytes_fit;
 pub use packed::Packed;
 pub use packed::PackedSurface;
 pub use packed::packed_fits;
