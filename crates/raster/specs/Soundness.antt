@@ -6,7 +6,7 @@ use Prim.Native.Nat.{ℕ, _+_, _*_, _%_, _^_, _<_, _≤_}
 use native.Mathlib.Omega.{arith}
 use base.Fml.{GName}
 use borrow.Author.Tests.{eq-eqb, eqb-true}
-use lib.Dec.{ltb, eqb}
+use lib.Dec.{leb, ltb, eqb}
 use lib.IntN.{ℤ, pos, natAbs}
 use lib.ListN.{length, getD}
 use Rattle.surface.specs.Meaning.{Meaning, Frame, Sound, spans, inside, frame}
@@ -14,6 +14,7 @@ use Rattle.raster.specs.Bits.{bitOf}
 use Rattle.raster.specs.Bytewise.{bytewise, bytewise-rest}
 use Rattle.raster.specs.Layout.{laid, has, row-there, Untouched}
 use Rattle.raster.specs.Packing.{stride, there, packed, packed-rest}
+use Rattle.raster.specs.Planar.{plane, planes-there, four, planar, planar-rest}
 
 below : (t : Bool) (b k : ℕ) → 0 < k → b < k → cond t b 0 < k
 below true b k z h = h
@@ -69,4 +70,21 @@ pub bytewise-stays : (w h : ℕ) (m : List ℕ) (l : GName) (w′ h′ : ℕ) (m
     → bytewise-rest w h m l ≡ bytewise-rest w′ h′ m′ l′ → frame (bytewise w h m) ≡ frame (bytewise w′ h′ m′)
 bytewise-stays w h m l w′ h′ m′ l′ e =
     let f : Untouched → Frame = λ r. record { width = r .width; height = r .height; depth = 8; opens = has (r .width) (r .height) (row-there (r .width) (r .bytes)) } in
+    ap f e
+
+four-below : (t : Bool) (a b c d : ℕ) → a < 2 → b < 2 → c < 2 → d < 2 → cond t (a + 2 * b + 4 * c + 8 * d) 0 < 16
+four-below true a b c d p q r s = omega arith
+four-below false a b c d p q r s = omega arith
+
+pub planar-sound : (w h : ℕ) (m : List ℕ) → Sides w h → Sound (planar w h m)
+planar-sound w h m sides =
+    let n = plane w h in
+    laid-sound w h (8 * stride w) 4 (planes-there w h m) (four n m) sides (omega arith) (omega arith) (omega arith)
+    (λ i. four-below (ltb i n) (bitOf m i) (bitOf m (n + i)) (bitOf m (2 * n + i)) (bitOf m (3 * n + i)) (omega arith) (omega arith) (omega arith) (omega arith))
+
+pub planar-stays : (w h : ℕ) (m : List ℕ) (l : GName) (w′ h′ : ℕ) (m′ : List ℕ) (l′ : GName)
+    → planar-rest w h m l ≡ planar-rest w′ h′ m′ l′ → frame (planar w h m) ≡ frame (planar w′ h′ m′)
+planar-stays w h m l w′ h′ m′ l′ e =
+    let f : Untouched → Frame = λ r.
+    record { width = r .width; height = r .height; depth = 4; opens = has (r .width) (r .height) (λ _. leb (4 * (r .height * stride (r .width))) (r .bytes)) } in
     ap f e

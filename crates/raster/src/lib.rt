@@ -2,6 +2,7 @@
 mod bits;
 mod bytes;
 mod packed;
+mod planes;
 mod rows;
 mod size;
 
@@ -11,3 +12,6 @@ pub use bytes::bytes_fit;
 pub use packed::Packed;
 pub use packed::PackedSurface;
 pub use packed::packed_fits;
+pub use planes::Planes;
+pub use planes::PlanesSurface;
+pub use planes::planes_fit;
