@@ -18,6 +18,9 @@ use crate::size::is_sized;
 use codes::Refusal;
 use surface::Surface;
 
+// The bits of a cell.
+const DEPTH: u8 = 8;
+
 // A surface of depth 8 over a caller's memory: a byte a cell, row after row.
 #[derive(Drop)]
 pub struct Bytes<'a> {
@@ -69,7 +72,7 @@ impl<'a> Bytes<'a> {
     pub fn memory(&self) -> &[u8]
         ensures { λ r. ⌜ now r ≡ now (now (self .entry) .memory) ⌝ }
     {
-        self.memory
+        &self.memory[..]
     }
 
     // Where row y begins in the memory.
@@ -108,7 +111,7 @@ pub impl Surface for Bytes<'_> as BytesSurface {
     }
 
     fn depth(&self) -> u8 {
-        8
+        DEPTH
     }
 
     fn word(&self, x: i32, y: i32) -> u16 {

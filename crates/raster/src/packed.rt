@@ -21,6 +21,9 @@ use crate::size::is_sized;
 use codes::Refusal;
 use surface::Surface;
 
+// The bits of a cell.
+const DEPTH: u8 = 1;
+
 // A surface of depth 1 over a caller's memory: each row has whole bytes, the highest bit leftmost.
 #[derive(Drop)]
 pub struct Packed<'a> {
@@ -79,7 +82,7 @@ impl<'a> Packed<'a> {
     pub fn memory(&self) -> &[u8]
         ensures { λ r. ⌜ now r ≡ now (now (self .entry) .memory) ⌝ }
     {
-        self.memory
+        &self.memory[..]
     }
 
     // Where row y begins in the memory.
@@ -118,7 +121,7 @@ pub impl Surface for Packed<'_> as PackedSurface {
     }
 
     fn depth(&self) -> u8 {
-        1
+        DEPTH
     }
 
     fn word(&self, x: i32, y: i32) -> u16 {

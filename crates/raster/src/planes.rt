@@ -22,6 +22,9 @@ use crate::size::is_sized;
 use codes::Refusal;
 use surface::Surface;
 
+// The bits of a cell.
+const DEPTH: u8 = 4;
+
 // A surface of depth 4 over a caller's memory: four packed pictures one after another, the lowest bit first.
 #[derive(Drop)]
 pub struct Planes<'a> {
@@ -127,7 +130,7 @@ impl<'a> Planes<'a> {
     pub fn memory(&self) -> &[u8]
         ensures { λ r. ⌜ now r ≡ now (now (self .entry) .memory) ⌝ }
     {
-        self.memory
+        &self.memory[..]
     }
 
     // The bytes of a plane.
@@ -171,7 +174,7 @@ pub impl Surface for Planes<'_> as PlanesSurface {
     }
 
     fn depth(&self) -> u8 {
-        4
+        DEPTH
     }
 
     fn word(&self, x: i32, y: i32) -> u16 {
