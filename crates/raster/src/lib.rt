@@ -1,0 +1,17 @@
+// Surfaces over a caller's memory.
+mod bits;
+mod bytes;
+mod packed;
+mod planes;
+mod rows;
+mod size;
+
+pub use bytes::Bytes;
+pub use bytes::BytesSurface;
+pub use bytes::bytes_fit;
+pub use packed::Packed;
+pub use packed::PackedSurface;
+pub use packed::packed_fits;
+pub use planes::Planes;
+pub use planes::PlanesSurface;
+pub use planes::planes_fit;

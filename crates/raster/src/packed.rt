@@ -1,0 +1,171 @@
+ghost use mathlib.Core.Path.{_≡_};
+ghost use mathlib.Core.Bool.{true, false, cond, _&&_};
+ghost use Prim.Native.Nat.{ℕ, _*_, _≤_};
+ghost use lib.IntN.{ℤ, natAbs};
+ghost use lib.ListN.{length};
+ghost use denote.Ref.{now, name};
+ghost use Rattle.std.specs.Options.{Cases as BySome};
+ghost use Rattle.surface.specs.Meaning.{inside, strip, filled};
+ghost use Rattle.surface.specs.Rects.{Kept};
+ghost use Rattle.surface.specs.Rects.Keep.{nothing};
+ghost use Rattle.raster.specs.Soundness.{packed-sound, packed-stays};
+ghost use Rattle.raster.specs.Layout.{has-row, fitting, Untouched};
+ghost use Rattle.raster.specs.Packing.{stride, fits, there, packed, packed-rest, Drawn};
+use crate::bits::bit_at;
+use crate::bits::fill_bits;
+use crate::bits::paint_in_byte;
+use crate::rows::clip;
+use crate::rows::row_start;
+use crate::size::Size;
+use crate::size::is_sized;
+use codes::Refusal;
+use surface::Surface;
+
+// The bits of a cell.
+const DEPTH: u8 = 1;
+
+// A surface of depth 1 over a caller's memory: each row has whole bytes, the highest bit leftmost.
+#[derive(Drop)]
+pub struct Packed<'a> {
+    memory: &'a mut [u8],
+    size: Size,
+}
+
+// The bytes of a row.
+pub(crate) fn pitch(width: u16) -> usize
+    ensures { λ r. ⌜ r ≡ stride width ⌝ }
+{
+    (width as usize + 7) / 8
+}
+
+// Whether a picture may have this size, and a memory has place for it.
+pub fn packed_fits(memory: &[u8], width: u32, height: u32) -> Result<(), Refusal>
+    ensures { λ r. ⌜ r ≡ fitting width height (height * stride width) (length (now (memory .entry))) ⌝ }
+{
+    if !is_sized(width, height) {
+        return Err(Refusal::Size);
+    }
+    if memory.len() < height as usize * pitch(width as u16) {
+        return Err(Refusal::Memory);
+    }
+    Ok(())
+}
+
+impl<'a> Packed<'a> {
+    // The surface over a memory, or one without cells where packed_fits refuses.
+    pub fn new(memory: &'a mut [u8], width: u32, height: u32) -> Packed<'a>
+        ensures width { λ r. ⌜ r .size .width ≡ cond (fits width height (length (now (memory .entry)))) width 0 ⌝ }
+        ensures height { λ r. ⌜ r .size .height ≡ cond (fits width height (length (now (memory .entry)))) height 0 ⌝ }
+        ensures same { λ r. ⌜ now (r .memory) ≡ now (memory .entry) ⌝ }
+        ensures lender { λ r. ⌜ name (r .memory) ≡ name (memory .entry) ⌝ }
+        ensures all_open { λ r. ⌜ ((x y : ℤ) → packed (r .size .width) (r .size .height) (now (r .memory)) .opens x y ≡ inside (r .size .width) (r .size .height) x y) ⌝ }
+    {
+        if packed_fits(memory, width, height).is_err() {
+            return Packed {
+                memory,
+                size: Size {
+                    width: 0,
+                    height: 0,
+                },
+            };
+        }
+        Packed {
+            memory,
+            size: Size {
+                width: width as u16,
+                height: height as u16,
+            },
+        }
+    }
+
+    // The bytes of the picture, and what is behind them.
+    pub fn memory(&self) -> &[u8]
+        ensures { λ r. ⌜ now r ≡ now (now (self .entry) .memory) ⌝ }
+    {
+        &self.memory[..]
+    }
+
+    // Where row y begins in the memory.
+    fn row_start(&self, y: i32) -> Option<usize>
+        ensures { λ r. ⌜ BySome r (has-row (now (self .entry) .size .height) (there (now (self .entry) .size .width) (now (now (self .entry) .memory))) y ≡ false) (λ start. (has-row (now (self .entry) .size .height) (there (now (self .entry) .size .width) (now (now (self .entry) .memory))) y ≡ true) × (start ≡ natAbs y * stride (now (self .entry) .size .width))) ⌝ }
+    {
+        row_start(
+            self.memory.len(),
+            self.size.height,
+            pitch(self.size.width),
+            y,
+        )
+    }
+}
+
+pub impl Surface for Packed<'_> as PackedSurface {
+    ghost means = { λ s. packed (s .size .width) (s .size .height) (now (s .memory)) };
+
+    ghost keeps = { λ _. nothing };
+
+    // The padding of the rows and the memory behind the picture stay, and the lender too.
+    ghost Rest = { Untouched };
+
+    ghost rest = { λ s. packed-rest (s .size .width) (s .size .height) (now (s .memory)) (name (s .memory)) };
+
+    ghost stays = { λ s t e. packed-stays (s .size .width) (s .size .height) (now (s .memory)) (name (s .memory)) (t .size .width) (t .size .height) (now (t .memory)) (name (t .memory)) e };
+
+    ghost sound = { λ s. packed-sound (s .size .width) (s .size .height) (now (s .memory)) (record { wide = s .size .wide; high = s .size .high; both = s .size .both }) };
+
+    fn width(&self) -> u16 {
+        self.size.width
+    }
+
+    fn height(&self) -> u16 {
+        self.size.height
+    }
+
+    fn depth(&self) -> u8 {
+        DEPTH
+    }
+
+    fn word(&self, x: i32, y: i32) -> u16 {
+        let Some(start) = self.row_start(y) else {
+            return 0;
+        };
+        if x < 0 || x >= self.size.width as i32 {
+            return 0;
+        }
+        bit_at(self.memory, 8 * start + x as usize)
+    }
+
+    fn is_open(&self, x: i32, y: i32) -> bool {
+        x >= 0 && x < self.size.width as i32 && self.row_start(y).is_some()
+    }
+
+    fn set(&mut self, x: i32, y: i32, v: u16)
+        ensures picture { λ _. ⌜ packed (now (self .exit) .size .width) (now (self .exit) .size .height) (now (now (self .exit) .memory)) ≡ filled x y 1 v (packed (now (self .entry) .size .width) (now (self .entry) .size .height) (now (now (self .entry) .memory))) ⌝ }
+        ensures kept { λ _. ⌜ Kept nothing (λ a b. strip x y 1 a b && packed (now (self .entry) .size .width) (now (self .entry) .size .height) (now (now (self .entry) .memory)) .opens a b) nothing ⌝ }
+        ensures rest { λ _. ⌜ packed-rest (now (self .exit) .size .width) (now (self .exit) .size .height) (now (now (self .exit) .memory)) (name (now (self .exit) .memory)) ≡ packed-rest (now (self .entry) .size .width) (now (self .entry) .size .height) (now (now (self .entry) .memory)) (name (now (self .entry) .memory)) ⌝ }
+        ensures memory { λ _. ⌜ Drawn (now (self .entry) .size .width) (now (self .entry) .size .height) (now (now (self .entry) .memory)) (strip x y 1) v (now (now (self .exit) .memory)) ⌝ }
+        ensures lender { λ _. ⌜ name (now (self .exit) .memory) ≡ name (now (self .entry) .memory) ⌝ }
+    {
+        if x < 0 || x >= self.size.width as i32 {
+            return;
+        }
+        if let Some(start) = self.row_start(y) {
+            let x = x as usize;
+            paint_in_byte(self.memory, start + x / 8, x % 8, x % 8 + 1, v % 2 == 1);
+        }
+    }
+
+    fn fill(&mut self, x: i32, y: i32, n: u16, v: u16)
+        ensures picture { λ _. ⌜ packed (now (self .exit) .size .width) (now (self .exit) .size .height) (now (now (self .exit) .memory)) ≡ filled x y n v (packed (now (self .entry) .size .width) (now (self .entry) .size .height) (now (now (self .entry) .memory))) ⌝ }
+        ensures kept { λ _. ⌜ Kept nothing (λ a b. strip x y n a b && packed (now (self .entry) .size .width) (now (self .entry) .size .height) (now (now (self .entry) .memory)) .opens a b) nothing ⌝ }
+        ensures rest { λ _. ⌜ packed-rest (now (self .exit) .size .width) (now (self .exit) .size .height) (now (now (self .exit) .memory)) (name (now (self .exit) .memory)) ≡ packed-rest (now (self .entry) .size .width) (now (self .entry) .size .height) (now (now (self .entry) .memory)) (name (now (self .entry) .memory)) ⌝ }
+        ensures memory { λ _. ⌜ Drawn (now (self .entry) .size .width) (now (self .entry) .size .height) (now (now (self .entry) .memory)) (strip x y n) v (now (now (self .exit) .memory)) ⌝ }
+        ensures lender { λ _. ⌜ name (now (self .exit) .memory) ≡ name (now (self .entry) .memory) ⌝ }
+    {
+        let (from, to) = clip(x, n, self.size.width);
+        if let Some(start) = self.row_start(y) {
+            let end = start + pitch(self.size.width);
+            let row = &mut self.memory[start..end];
+            fill_bits(row, from, to - from, v % 2 == 1);
+        }
+    }
+}
