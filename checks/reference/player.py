@@ -5,8 +5,10 @@
 
 Plays a metafile on a one-bit picture of 576 x 400 cells, cell by cell, and writes what the program
 wmftopbm writes: the PBM on standard output, the report on standard error, the same exit status.
-Every cell is computed on its own from the definition; nothing is made fast.
+Every cell is computed on its own from the definition; nothing is made fast, but words already made
+are remembered.
 """
+import functools
 import sys
 
 WIDTH, HEIGHT, DEPTH = 576, 400, 1
@@ -75,11 +77,13 @@ def bit(k, n):
     return n // 2 ** k % 2
 
 
+@functools.lru_cache(maxsize=None)
 def combined(code, pattern, source, picture):
     """Ternary raster operation: bits P, S and D give bit 4P + 2S + D of the code."""
     return sum(2 ** k * bit(4 * bit(k, pattern) + 2 * bit(k, source) + bit(k, picture), code) for k in range(16))
 
 
+@functools.lru_cache(maxsize=None)
 def mixed(mode, pen, picture):
     """Line mode: bits p and q give bit 2p + q of mode - 1."""
     return sum(2 ** k * bit(2 * bit(k, pen) + bit(k, picture), mode - 1) for k in range(16))
