@@ -1,5 +1,5 @@
 #!/usr/bin/env python3
-"""A second player, written from the rules in docs/ alone and sharing nothing with the proved one.
+"""A second player, written from the rules that docs/ states and sharing nothing with the proved one.
 
     player.py [--trace] < FILE.wmf > FILE.pbm
 
@@ -116,17 +116,17 @@ def on_hatch_line(style, x, y):
 
 class Picture:
     def __init__(self):
-        self.words = {}
+        self.rows = [[0] * WIDTH for _ in range(HEIGHT)]
 
     def inside(self, x, y):
         return 0 <= x < WIDTH and 0 <= y < HEIGHT
 
     def word(self, x, y):
-        return self.words.get((x, y), 0) if self.inside(x, y) else 0
+        return self.rows[y][x] if self.inside(x, y) else 0
 
     def set(self, x, y, value):
         if self.inside(x, y):
-            self.words[x, y] = value % 2 ** DEPTH
+            self.rows[y][x] = value % 2 ** DEPTH
 
 
 # --- the run ----------------------------------------------------------------------------------------
@@ -335,11 +335,9 @@ class Run:
 def pbm(picture):
     out = bytearray(b'P4\n%d %d\n' % (WIDTH, HEIGHT))
     for y in range(HEIGHT):
-        for first in range(0, WIDTH, 8):
-            byte = 0
-            for x in range(first, first + 8):
-                byte = 2 * byte + (1 - picture.word(x, y) % 2 if x < WIDTH else 0)
-            out.append(byte)
+        bits = ''.join(str(1 - word % 2) for word in picture.rows[y])
+        bits += '0' * (-WIDTH % 8)
+        out += bytes(int(bits[i:i + 8], 2) for i in range(0, len(bits), 8))
     return bytes(out)
 
 
@@ -347,17 +345,13 @@ def refusal(fault):
     return '%d at byte %d (%s): %s' % (fault.number, fault.place, fault.layer, CAUSES[fault.number])
 
 
-def main(words):
-    trace = words == ['--trace']
-    if words and not trace:
-        print(USAGE, file=sys.stderr)
-        return 1
-    say = lambda line: print(line, file=sys.stderr)
+def play(data, trace=False):
+    """The exit status, and what goes to standard output and to standard error."""
+    lines = []
     try:
-        data, objects = check(sys.stdin.buffer.read(LONGEST + 1))
+        data, objects = check(data[:LONGEST + 1])
     except Fault as fault:
-        say('refused ' + refusal(fault))
-        return 1
+        return 1, b'', 'refused ' + refusal(fault) + '\n'
     picture = Picture()
     run = Run(data, objects, picture)
     refusals, stopped, answer = [], None, ''
@@ -372,16 +366,25 @@ def main(words):
             else:
                 refusals.append(fault)
         if trace:
-            say('%d %s %s' % (place, name, answer))
+            lines.append('%d %s %s' % (place, name, answer))
     for fault in refusals[:20]:
-        say('refused ' + refusal(fault))
+        lines.append('refused ' + refusal(fault))
     if len(refusals) > 20:
-        say('and %d more refused' % (len(refusals) - 20))
+        lines.append('and %d more refused' % (len(refusals) - 20))
     if stopped is not None:
-        say('stopped: ' + refusal(stopped))
-    say('taken %d, refused %d, passed over %d' % (run.taken, run.refused, run.passed))
-    sys.stdout.buffer.write(pbm(picture))
-    return 0
+        lines.append('stopped: ' + refusal(stopped))
+    lines.append('taken %d, refused %d, passed over %d' % (run.taken, run.refused, run.passed))
+    return 0, pbm(picture), ''.join(line + '\n' for line in lines)
+
+
+def main(words):
+    if words not in ([], ['--trace']):
+        print(USAGE, file=sys.stderr)
+        return 1
+    status, out, report = play(sys.stdin.buffer.read(LONGEST + 1), trace=words == ['--trace'])
+    sys.stdout.buffer.write(out)
+    sys.stderr.write(report)
+    return status
 
 
 if __name__ == '__main__':
