@@ -6,8 +6,10 @@ which the picture fits into N columns (144 by default), and is set where at leas
 or with --invert white, which suits a dark terminal.
 """
 import argparse
+import signal
 import sys
 
+sys.dont_write_bytecode = True
 from pbm_to_png import read_pbm
 
 # dot (column, row) of a Braille character
@@ -15,6 +17,7 @@ DOTS = {(0, 0): 0x01, (0, 1): 0x02, (0, 2): 0x04, (1, 0): 0x08, (1, 1): 0x10, (1
 
 
 def main():
+    signal.signal(signal.SIGPIPE, signal.SIG_DFL)      # a reader may stop early, as head does
     words = argparse.ArgumentParser(description=__doc__, formatter_class=argparse.RawDescriptionHelpFormatter)
     words.add_argument('--invert', action='store_true')
     words.add_argument('--columns', type=int, default=144)

@@ -2,6 +2,7 @@
 """The worked examples of docs/ on the reference player: prints how many were tried, and ends with 1 if one fails."""
 import sys
 
+sys.dont_write_bytecode = True
 import player
 
 HEADER = bytes([1, 0, 9, 0, 0, 3, 12, 0, 0, 0, 0, 0, 3, 0, 0, 0, 0, 0])
