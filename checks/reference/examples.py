@@ -1,5 +1,7 @@
 #!/usr/bin/env python3
 """The worked examples of docs/ on the reference player: prints how many were tried, and ends with 1 if one fails."""
+import os
+import re
 import sys
 
 sys.dont_write_bytecode = True
@@ -67,6 +69,14 @@ expect('17 bytes', number(bytes(17)), 3)
 expect('18 bytes', number(bytes(18)), 4)
 expect('header and end record', player.play(HEADER + END),
        (0, b'P4\n576 400\n' + b'\xFF' * 28800, 'taken 0, refused 0, passed over 0\n'))
+
+page = os.path.join(os.path.dirname(os.path.abspath(__file__)), '..', '..', 'docs', 'refusals.md')
+texts = re.findall(r'^\| (\d+) \| `([^`]*)` \|$', open(page, encoding='utf-8').read(), re.M)
+expect('texts of docs/refusals.md', {int(n): text for n, text in texts}, player.CAUSES)
+page = page.replace('refusals.md', 'file-and-records.md')
+rows = re.findall(r'^\| 0x([0-9A-F]{4}) \| `(META_\w+)` \| ([\d or]+) \|', open(page, encoding='utf-8').read(), re.M)
+expect('record table of docs/file-and-records.md',
+       {int(f, 16): (name, tuple(map(int, sizes.split(' or ')))) for f, name, sizes in rows}, player.RECORDS)
 
 print('examples: %d tried, %d failed' % (len(results), results.count(False)))
 sys.exit(results.count(False) != 0)
