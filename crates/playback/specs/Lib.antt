@@ -1,0 +1,4 @@
+pub mod Objects
+pub mod Places
+pub mod Contexts
+pub mod Records

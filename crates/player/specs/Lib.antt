@@ -1,0 +1,5 @@
+pub mod Faults
+pub mod Finding
+pub mod Views
+pub mod Runs
+pub mod Playing
