@@ -1,7 +1,8 @@
 -- Points and areas: which numbers may be given directly, and the cells of an area.
 use mathlib.Core.Bool.{Bool, _&&_}
+use Prim.Native.Nat.{ℕ}
 use lib.IntN.{ℤ, pos, negsuc, _+ℤ_}
-use lib.Signed.{leZ, ltZ}
+use lib.Signed.{leZ, ltZ, _≤ℤ_}
 use Rattle.surface.specs.Meaning.{spans}
 use Rattle.surface.specs.declared.rect.Rect.{Rect}
 use Rattle.drawing.specs.declared.shape.Area.{Area}
@@ -32,3 +33,9 @@ covers r a b = between (r .x) (r .x +ℤ r .w) a && between (r .y) (r .y +ℤ r 
 -- the cells of a rectangle's columns in row y
 abbrev pub row : Rect → ℤ → ℤ → ℤ → Bool
 row r y a b = between (r .left) (r .right) a && spans y 1 b
+
+-- a rectangle's columns lie in a picture of this width
+pub record Across (width : ℕ) (r : Rect) : Type 0 where
+  pub left : pos 0 ≤ℤ r .left
+  pub right : pos 0 ≤ℤ r .right
+  pub within : r .right ≤ℤ pos width
