@@ -1,0 +1,5 @@
+// Lines on any surface.
+mod course;
+mod tracing;
+
+pub use tracing::line;
