@@ -1,17 +1,22 @@
 -- The sources of an area's cells.
-use mathlib.Core.Path.{_≡_, ap, _∙_}
-use mathlib.Core.Bool.{Bool, true, _&&_}
+use mathlib.Core.Path.{_≡_, sym, ap, fun-ext, _∙_}
+use mathlib.Core.Bool.{Bool, true, false, _&&_}
 use Prim.Native.Nat.{ℕ}
 use lib.IntN.{ℤ, pos, _+ℤ_, _-ℤ_}
 use native.Mathlib.Omega.{arith}
 use mir.Syntax.{w32}
 use mir.Val.{SFits}
 use Rattle.std.proofs.shelf.Signed.{ints}
-use Rattle.std.proofs.shelf.Tests.{and-parts}
-use Rattle.codes.specs.Operations.{combined}
+use Rattle.std.proofs.shelf.Tests.{and-parts, cond-true}
+use Rattle.codes.specs.Operations.{combined, sourced}
+use Rattle.codes.specs.declared.refusal.Refusal.the-variants.{Range}
 use Rattle.surface.specs.Meaning.{strip}
+use Rattle.surface.specs.Rects.{holds}
 use Rattle.surface.proofs.Strokes.{Cells}
 use Rattle.drawing.specs.Areas.{between, coordinate, covers, extent, placed, ranged}
+use Rattle.drawing.specs.Tasks.{blended, blendTask, copied, copyTask, draw, refuse}
+use Rattle.drawing.proofs.Independence.{unsourced}
+use Rattle.pencil.specs.declared.pencil_state.Pencil.{Pencil}
 use Rattle.drawing.specs.declared.shape.Area.{Area}
 use Rattle.drawing.specs.declared.shape.Point.{Point}
 use Rattle.copies.specs.Shifts.{Reached, near, towards}
@@ -62,3 +67,14 @@ area-reached r p cells e h =
 
 pub combine-is : (code p s d p′ s′ d′ v : ℕ) → v ≡ combined code p s d → p ≡ p′ → s ≡ s′ → d ≡ d′ → v ≡ combined code p′ s′ d′
 combine-is code p s d p′ s′ d′ v e ep es ed = e ∙ ap (λ p. combined code p s d) ep ∙ ap (λ s. combined code p′ s d) es ∙ ap (combined code p′ s′) ed
+
+-- where the source makes no difference, a copy is a blend without one
+pub sourceless : (p : Pencil) (r : Area) (s : Point) (code : ℕ) (shade : ℤ → ℤ → ℕ) → (ranged r && placed s) ≡ true → sourced code ≡ false
+    → blendTask p r code shade (λ _ _. 0) ≡ copyTask p r s code shade
+sourceless p r s code shade e n =
+    let cells : Cells = λ a b. covers r a b && holds (p .clip) a b in
+    let words : blended code shade (λ _ _. 0) ≡ copied code shade (s .x -ℤ r .x) (s .y -ℤ r .y) =
+    fun-ext λ m. fun-ext λ a. fun-ext λ b. unsourced code (shade a b) 0 (m .word (a +ℤ (s .x -ℤ r .x)) (b +ℤ (s .y -ℤ r .y))) (m .word a b) n in
+    cond-true (ranged r) (draw cells (blended code shade (λ _ _. 0))) (refuse Range) (and-parts (ranged r) (placed s) e .0)
+    ∙ ap (draw cells) words
+    ∙ sym (cond-true (ranged r && placed s) (draw cells (copied code shade (s .x -ℤ r .x) (s .y -ℤ r .y))) (refuse Range) e)

@@ -1,10 +1,14 @@
 use crate::shift::Shift;
 use codes::Refusal;
 use codes::combine;
+use codes::depends_on_source;
 use drawing::Area;
 use drawing::Point;
+use drawing::blend;
 use drawing::visible;
 use ink::Ink;
+use ink::Solid;
+use ink::SolidInk;
 use pencil::Pencil;
 use surface::Rect;
 use surface::Surface;
@@ -101,6 +105,9 @@ pub fn copy<S: Surface, I: Ink>(
 {
     if !in_range(area, source) {
         return Err(Refusal::Range);
+    }
+    if !depends_on_source(code) {
+        return blend(surface, pencil, area, code, ink, &Solid(0));
     }
     let shown = visible(area, pencil.clip, S::width(surface), S::height(surface));
     copy_rect(surface, shown, way(area, source), code, ink);

@@ -1,4 +1,4 @@
 pub mod Rows
 pub mod Cuts
 pub mod Performing
-mod Unpictured
+pub mod Independence

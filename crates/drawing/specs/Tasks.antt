@@ -57,10 +57,13 @@ lineTask p from to = cond (placed from && placed to)
     (draw (λ a b. draws (p .pen) && (traced from to (longer from to) a b && holds (p .clip) a b)) (mixing (p .mode) (colour (p .pen))))
     (refuse Range)
 
--- an area, by a raster operation without a source, with an ink's words
+-- an area, by a raster operation with the words of two inks, a pattern and a source
+abbrev pub blendTask : Pencil → Area → ℕ → (ℤ → ℤ → ℕ) → (ℤ → ℤ → ℕ) → Task
+blendTask p area code pattern source = cond (ranged area) (draw (λ a b. covers area a b && holds (p .clip) a b) (blended code pattern source)) (refuse Range)
+
+-- an area, by a raster operation that does not depend on a source, with an ink's words
 abbrev pub paintTask : Pencil → Area → ℕ → (ℤ → ℤ → ℕ) → Task
-paintTask p area code shade = cond (sourced code) (refuse Operation)
-    (cond (ranged area) (draw (λ a b. covers area a b && holds (p .clip) a b) (blended code shade (λ _ _. 0))) (refuse Range))
+paintTask p area code shade = cond (sourced code) (refuse Operation) (blendTask p area code shade (λ _ _. 0))
 
 -- an area, by a raster operation whose source is the area of the same size from another point
 abbrev pub copyTask : Pencil → Area → Point → ℕ → (ℤ → ℤ → ℕ) → Task

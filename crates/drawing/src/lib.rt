@@ -4,6 +4,7 @@ mod painting;
 mod shape;
 mod visibility;
 
+pub use painting::blend;
 pub use painting::paint;
 pub use painting::paint_within;
 pub use shape::Area;

@@ -3,3 +3,4 @@ mod course;
 mod tracing;
 
 pub use tracing::line;
+pub use tracing::line_examples;

@@ -19,6 +19,7 @@ ghost use Rattle.surface.specs.Drawing.{Draws};
 ghost use Rattle.drawing.specs.Areas.{placed};
 ghost use Rattle.drawing.specs.Lines.{longer, traced};
 ghost use Rattle.drawing.specs.Tasks.{Performs, lineTask, mixing};
+ghost use Rattle.lines.specs.Examples.{Examples};
 
 // Draws one cell with a pen, if it lies in a rectangle.
 fn dot<S: Surface>(surface: &mut S, rect: Rect, at: Point, mode: LineMode, pen: u16)
@@ -93,3 +94,8 @@ pub fn line<S: Surface>(
         }
     }
 }
+
+// Some lines, cell by cell.
+pub fn line_examples()
+    ensures { λ _. ⌜ Examples ⌝ }
+{}

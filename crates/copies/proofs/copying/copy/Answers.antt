@@ -4,11 +4,16 @@ use Rattle.std.proofs.shelf.Tests.{and-parts, cond-true}
 use Rattle.surface.specs.Rects.{holds}
 use Rattle.surface.proofs.Strokes.{drawn-shown}
 use Rattle.drawing.specs.Areas.{covers}
-use Rattle.drawing.proofs.Performing.{performed}
+use Rattle.drawing.proofs.Performing.{performed, performed-as}
 use Rattle.copies.specs.Shifts.{Reached}
-use Rattle.copies.proofs.Sources.{area-reached}
+use Rattle.copies.proofs.Sources.{area-reached, sourceless}
 use Rattle.copies.proofs.Sweeps.{copied-at}
 use Rattle.copies.proofs.copying.copy.Needs as need
+
+pub returns-then-not-depends-on-source : need.returns-then-not-depends-on-source
+returns-then-not-depends-on-source g c =
+    performed-as _ _ _ _ _ _ _ _
+    (sourceless (c .args .pencil .now) (c .args .area) (c .args .source) (c .args .code) (g .I·Ink .shade (c .args .ink .now)) (sym (c .in-range .ensures) ∙ c .if-not-in-range .left) (sym (c .depends-on-source .ensures) ∙ c .if-not-depends-on-source .taken)) (c .blend .ensures)
 
 pub way-requires : need.way-requires
 way-requires g c κs = sym (c .in-range .ensures) ∙ c .if-not-in-range .left

@@ -23,6 +23,7 @@ copy-row-requires g c κs =
 pub down-again : need.down-again
 down-again g c =
     let d : SFits w32 (c .args .shift .dy) = search needs in
+    let e : SFits w32 (c .args .shift .dx) = search needs in
     let t : SFits w32 (c .args .area .bottom) = search needs in (
       omega (arith, ints),
       down-step _ _ _ _ _ _ _ _ _ _ _ _ (c .args .area) _ _ (c .down .inv .0) (simp toZ-ofZ at (c .down-test .taken)) (omega (arith, ints)) (leZ-true _ _ (simp toZ-ofZ at (c .if-shift-ge0 .taken)))
@@ -40,6 +41,7 @@ copy-row-requires-in-up g c κs =
 pub up-again : need.up-again
 up-again g c =
     let d : SFits w32 (c .args .shift .dy) = search needs in
+    let e : SFits w32 (c .args .shift .dx) = search needs in
     let t : SFits w32 (c .args .area .top) = search needs in
     let n : c .args .shift .dy <ℤ pos 0 = leZ-false _ _ (simp toZ-ofZ at (c .if-shift-ge0 .left)) in (
       omega (arith, ints),

@@ -1,5 +1,5 @@
 use mathlib.Core.Path.{sym, _∙_}
-use Rattle.drawing.proofs.Unpictured.{uniform-is}
+use Rattle.drawing.proofs.Independence.{uniform-is}
 use Rattle.drawing.proofs.filling.uniform.Needs as need
 
 pub returns : need.returns

@@ -1,10 +1,7 @@
-use Rattle.std.proofs.shelf.Tests.{cond-true, cond-false}
 use mathlib.Core.Path.{sym, _∙_}
-use Rattle.surface.proofs.Strokes.{drawn-shown}
-use Rattle.drawing.proofs.Performing.{performed}
+use Rattle.std.proofs.shelf.Tests.{cond-false}
+use Rattle.drawing.proofs.Performing.{performed-as}
 use Rattle.drawing.proofs.painting.paint.Needs as need
 
 pub returns : need.returns
-returns g c =
-    performed _ _ _ _ _ _ _ _ (cond-false _ _ _ (sym (c .depends-on-source .ensures) ∙ c .if-depends-on-source .left) ∙ cond-true _ _ _ (sym (c .in-range .ensures) ∙ c .if-not-in-range .left))
-    (drawn-shown _ _ _ _ _ _ _ _ _ _ _ (g .S·Surface .sound (c .args .surface .now)) (c .width .ensures) (c .height .ensures) (c .visible-shown .ensures .cells) (c .blend-rect .ensures))
+returns g c = performed-as _ _ _ _ _ _ _ _ (sym (cond-false _ _ _ (sym (c .depends-on-source .ensures) ∙ c .if-depends-on-source .left))) (c .blend .ensures)
