@@ -1,0 +1,4 @@
+pub mod Rows
+pub mod Cuts
+pub mod Performing
+pub mod Independence
