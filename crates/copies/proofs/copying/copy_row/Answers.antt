@@ -22,7 +22,8 @@ copy-cell-requires g c κs =
 
 pub right-again : need.right-again
 right-again g c =
-    let d : SFits w32 (c .args .shift .dx) = search needs in (
+    let d : SFits w32 (c .args .shift .dx) = search needs in
+    let e : SFits w32 (c .args .shift .dy) = search needs in (
       omega (arith, ints),
       right-step _ _ _ _ _ _ _ _ _ _ _ _ _ _ _ _ _ (c .right .inv .0) (c .right-test .taken) (omega (arith, ints)) (leZ-true _ _ (simp toZ-ofZ at (c .if-shift-ge0 .taken))) (c .right .inv .1) (c .copy-cell .ensures),
     )
@@ -39,7 +40,8 @@ copy-cell-requires-in-left g c κs =
 
 pub left-again : need.left-again
 left-again g c =
-    let d : SFits w32 (c .args .shift .dx) = search needs in (
+    let d : SFits w32 (c .args .shift .dx) = search needs in
+    let e : SFits w32 (c .args .shift .dy) = search needs in (
       omega (arith, ints),
       left-step _ _ _ _ _ _ _ _ _ _ _ _ _ _ _ _ _ (c .left .inv .0) (omega (arith, ints)) (omega (arith, ints)) (leZ-false _ _ (simp toZ-ofZ at (c .if-shift-ge0 .left))) (c .left .inv .1) (c .copy-cell-in-left .ensures),
     )
