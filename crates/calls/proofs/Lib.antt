@@ -1,0 +1,5 @@
+pub mod Draughting
+pub mod Shadows
+pub mod Objects
+pub mod Apart
+pub mod Along

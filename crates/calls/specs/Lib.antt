@@ -1,0 +1,4 @@
+pub mod Planes
+pub mod Seeing
+pub mod Machine
+pub mod Promise

@@ -1,0 +1,9 @@
+// Any list of calls on any surface, and the promise that no bit plane touches another.
+mod call;
+mod making;
+mod performing;
+
+pub use call::Call;
+pub use call::MeterCall;
+pub use call::Reply;
+pub use performing::perform;
