@@ -3,3 +3,4 @@ pub mod Shadows
 pub mod Objects
 pub mod Apart
 pub mod Along
+pub mod Bounds

@@ -6,7 +6,11 @@ use Prim.Native.Nat.{ℕ, _<_}
 use lib.IntN.{ℤ}
 use Rattle.codes.specs.Bits.{bit}
 use Rattle.surface.specs.Meaning.{Meaning}
-use Rattle.surface.specs.Rects.{Keep, Kept}
+use Rattle.surface.specs.Rects.{Keep, Kept, Within, holds, held}
+use Rattle.surface.specs.declared.rect.Rect.{Rect}
+use Rattle.std.specs.declared.option.Option.{Option}
+use Rattle.std.specs.declared.option.Option.the-variants.{None}
+use lib.Dec.{T}
 use Rattle.player.specs.declared.progress.Progress.{Progress}
 use Rattle.calls.specs.Machine.{Standing, begun, Machine}
 use Rattle.calls.specs.Planes.{plane}
@@ -42,4 +46,24 @@ pub record Performed {S R I : Type 0} (means : S → Meaning) (keeps : S → Kee
   pub reached : ℤ → ℤ → Bool
   pub led : Led shade file acts t (means s) (λ _ _. false) replies t′ (means s′) (means s) reached
   pub kept : Kept (keeps s) reached (keeps s′)
+  pub others : rest s′ ≡ rest s
+
+-- the smallest rectangle that holds a set of cells, and none exactly where the set is empty
+pub record Bounding (cells : ℤ → ℤ → Bool) (r : Option Rect) : Type 0 where
+  pub all : Within cells (held r)
+  pub least : (q : Rect) → Within cells (holds q) → Within (held r) (holds q)
+  pub empty : ((x y : ℤ) → T (cells x y) → ⊥) → r ≡ None
+  pub none : r ≡ None → (x y : ℤ) → T (cells x y) → ⊥
+
+-- A meter with the rectangle r over a surface s, and the rectangle r′ over s′ after a list of calls and clearings. Before them the
+-- cells of r count as reached, which a new meter has none of.
+pub record Metered {S R I : Type 0} (means : S → Meaning) (rest : S → R) (shade : I → ℤ → ℤ → ℕ) (file : List ℕ)
+    (acts : List (MeterCall I)) (t : Progress) (s : S) (r : Option Rect) (replies : List Reply) (t′ : Progress) (s′ : S) (r′ : Option Rect) : Type 0 where
+  pub reference : Meaning
+  pub reached : ℤ → ℤ → Bool
+  pub led : Led shade file acts t (means s) (held r) replies t′ (means s′) reference reached
+  -- the rectangle is the smallest around the cells reached since it was made or last cleared
+  pub bounds : Bounding reached r′
+  -- and no cell outside it has changed since
+  pub outside : (x y : ℤ) → held r′ x y ≡ false → means s′ .word x y ≡ reference .word x y
   pub others : rest s′ ≡ rest s

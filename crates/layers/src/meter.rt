@@ -32,6 +32,14 @@ impl<S: Surface> Meter<S> {
         self.kept
     }
 
+    // Leaves none, and changes nothing else.
+    pub fn clear(&mut self)
+        ensures below { λ _. ⌜ now (self .exit) .below ≡ now (self .entry) .below ⌝ }
+        ensures kept { λ _. ⌜ now (self .exit) .kept ≡ None ⌝ }
+    {
+        self.kept = None;
+    }
+
     pub fn into_below(self) -> S
         ensures { λ r. ⌜ r ≡ self .below ⌝ }
     {
