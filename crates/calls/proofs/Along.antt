@@ -21,10 +21,10 @@ use Rattle.calls.specs.declared.call.MeterCall.the-variants as act
 use Rattle.calls.specs.declared.call.Reply.{Reply}
 use Rattle.calls.proofs.Apart.{planes-apart}
 
-still-here : (m : Meaning) → Still m m
+pub still-here : (m : Meaning) → Still m m
 still-here m = record { width = refl; height = refl; depth = refl; opens = refl; closed = λ x y h. refl }
 
-still-then : (m n o : Meaning) → Still m n → Still n o → Still m o
+pub still-then : (m n o : Meaning) → Still m n → Still n o → Still m o
 still-then m n o a b = record {
   width = b .width ∙ a .width;
   height = b .height ∙ a .height;
@@ -36,12 +36,12 @@ still-then m n o a b = record {
 shut : (b : Bool) (v w : ℕ) → b ≡ false → cond b v w ≡ w
 shut b v w e = simp e refl
 
-still-after : (k : Mark) (m : Meaning) → Still m (after k m)
+pub still-after : (k : Mark) (m : Meaning) → Still m (after k m)
 still-after untouched m = still-here m
 still-after (marked region new) m = record { width = refl; height = refl; depth = refl; opens = refl; closed = λ x y h. shut (region x y && m .opens x y) _ _ (and-right (region x y) (m .opens x y) h) }
 
 -- a cell that a mark does not reach keeps its word
-unaimed : (k : Mark) (m : Meaning) (x y : ℤ) → aimed k m x y ≡ false → after k m .word x y ≡ m .word x y
+pub unaimed : (k : Mark) (m : Meaning) (x y : ℤ) → aimed k m x y ≡ false → after k m .word x y ≡ m .word x y
 unaimed untouched m x y e = refl
 unaimed (marked region new) m x y e = shut (region x y && m .opens x y) _ _ e
 

@@ -92,7 +92,7 @@ module _ (k : ℕ) where
   past-seen e (Err c) t = refl
 
   -- a step on plane k
-  step-seen : (file : List ℕ) (t : Progress) (a : Result Answer StepFault) (t′ : Progress) (μ : Mark) → Steps (λ w. w) file t a t′ μ
+  pub step-seen : (file : List ℕ) (t : Progress) (a : Result Answer StepFault) (t′ : Progress) (μ : Mark) → Steps (λ w. w) file t a t′ μ
     → (μ′ : Mark) × Steps (bit k) file (seenProgress (bit k) t) a (seenProgress (bit k) t′) μ′ × Shadow k μ μ′
   step-seen file t a t′ μ (over p ea et em) = (untouched, over p ea (ap (seenProgress (bit k)) et) refl, subst (λ m. Shadow k m untouched) (sym em) still)
   step-seen file t a t′ μ (lost p l ea et em) = (untouched, lost p l ea (ap (seenProgress (bit k)) et) refl, subst (λ m. Shadow k m untouched) (sym em) still)

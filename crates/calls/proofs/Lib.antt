@@ -4,3 +4,4 @@ pub mod Objects
 pub mod Apart
 pub mod Along
 pub mod Bounds
+pub mod Played

@@ -12,6 +12,8 @@ use Rattle.std.specs.declared.option.Option.{Option}
 use Rattle.std.specs.declared.option.Option.the-variants.{None}
 use lib.Dec.{T}
 use Rattle.player.specs.declared.progress.Progress.{Progress}
+use Rattle.player.specs.Playing.{Plays}
+use Rattle.player.specs.declared.whole.Step.{Step}
 use Rattle.calls.specs.Machine.{Standing, begun, Machine}
 use Rattle.calls.specs.Planes.{plane}
 use Rattle.calls.specs.Seeing.{seenProgress}
@@ -39,6 +41,14 @@ pub record Led {I : Type 0} (shade : I → ℤ → ℤ → ℕ) (file : List ℕ
   pub still : Still m m′
   -- no other cell has changed since
   pub unreached : (x y : ℤ) → reached x y ≡ false → m′ .word x y ≡ reference .word x y
+
+-- The same of a run of steps: on every plane k the machine that sees bit k of every colour, started from plane k, takes the same
+-- steps with the same answers and counts, reaches the same cells, and ends with plane k.
+pub record PlayedApart (file : List ℕ) (t : Progress) (m : Meaning) (steps : List Step) (t′ : Progress) (m′ : Meaning) : Type 0 where
+  pub cells : ℤ → ℤ → Bool
+  pub planes : (k : ℕ) → k < m .depth → Plays (bit k) file (seenProgress (bit k) t) (plane k m) steps (seenProgress (bit k) t′) (plane k m′) cells
+  pub still : Still m m′
+  pub unreached : (x y : ℤ) → cells x y ≡ false → m′ .word x y ≡ m .word x y
 
 -- a surface on which a list of calls was made, of which no cell counted as reached before
 pub record Performed {S R I : Type 0} (means : S → Meaning) (keeps : S → Keep) (rest : S → R) (shade : I → ℤ → ℤ → ℕ) (file : List ℕ)

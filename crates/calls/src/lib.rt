@@ -3,9 +3,11 @@ mod call;
 mod making;
 mod metering;
 mod performing;
+mod whole;
 
 pub use call::Call;
 pub use call::MeterCall;
 pub use call::Reply;
 pub use metering::perform_metered;
 pub use performing::perform;
+pub use whole::play_whole;
