@@ -97,13 +97,6 @@ impl<'a> Run<'a> {
         }
     }
 
-    // Where the run stands.
-    pub fn progress(&self) -> Progress
-        ensures { λ r. ⌜ r ≡ now (self .entry) .progress ⌝ }
-    {
-        self.progress
-    }
-
     // Takes the run away, and answers its counts.
     pub fn finish(self) -> Counts
         ensures { λ r. ⌜ r ≡ self .entry .progress .counts ⌝ }
