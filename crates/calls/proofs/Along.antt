@@ -48,7 +48,7 @@ unaimed (marked region new) m x y e = shut (region x y && m .opens x y) _ _ e
 module _ {I : Type 0} (view : ℕ → ℕ) (shade : I → ℤ → ℤ → ℕ) (file : List ℕ) where
   -- one more at the end
   pub machine-push : {p q : Standing} {acts : List (MeterCall I)} {rs : List Reply} (a : MeterCall I) (r : Reply) (s : Standing)
-    → Machine view shade file p acts rs q → Acts view shade file q a r s → Machine view shade file p (acts ++ (a ∷ [])) (rs ++ (r ∷ [])) s
+      → Machine view shade file p acts rs q → Acts view shade file q a r s → Machine view shade file p (acts ++ (a ∷ [])) (rs ++ (r ∷ [])) s
   machine-push a r s none x = next x none
   machine-push a r s (next y m) x = next y (machine-push a r s m x)
 
@@ -77,15 +77,15 @@ module _ {I : Type 0} (view : ℕ → ℕ) (shade : I → ℤ → ℤ → ℕ) (
   machine-since (next {p} {q} {s} {a} {acts} {r} {rs} x m) h = machine-since m (act-since a p q r x h)
 
   pub unreached : {q : Standing} {acts : List (MeterCall I)} {rs : List Reply} (t : Progress) (m : Meaning) (cells : ℤ → ℤ → Bool)
-    → Machine view shade file (begun t m cells) acts rs q → (x y : ℤ) → q .reached x y ≡ false → q .picture .word x y ≡ q .reference .word x y
+      → Machine view shade file (begun t m cells) acts rs q → (x y : ℤ) → q .reached x y ≡ false → q .picture .word x y ≡ q .reference .word x y
   unfolding Kept-since
   unreached t m cells h = machine-since h (λ x y n. refl)
 
 module _ {I : Type 0} (shade : I → ℤ → ℤ → ℕ) (file : List ℕ) where
   -- all that is promised follows from the machine that sees words as they are
   pub leads : {acts : List (MeterCall I)} {rs : List Reply} (t : Progress) (m : Meaning) (cells : ℤ → ℤ → Bool) (q : Standing)
-    → m .depth ≤ 16 → Machine (λ w. w) shade file (begun t m cells) acts rs q
-    → Led shade file acts t m cells rs (q .run) (q .picture) (q .reference) (q .reached)
+      → m .depth ≤ 16 → Machine (λ w. w) shade file (begun t m cells) acts rs q
+      → Led shade file acts t m cells rs (q .run) (q .picture) (q .reference) (q .reached)
   leads t m cells q d h = record {
     whole = h;
     planes = λ k l. planes-apart k shade file l d h;
@@ -111,14 +111,14 @@ module _ {I : Type 0} (shade : I → ℤ → ℤ → ℕ) (file : List ℕ) wher
 
     -- one call more
     pub along-next : (file′ : List ℕ) (acts acts′ : List (MeterCall I)) (t t₁ t₂ : Progress) (s s₁ s₂ : S) (replies replies′ : List Reply) (c : Call I) (r : Reply)
-      → Along acts t s replies t₁ s₁ → file′ ≡ file → Made means keeps rest shade file′ t₁ s₁ c r t₂ s₂
-      → acts′ ≡ acts ++ (act.Call c ∷ []) → replies′ ≡ replies ++ (r ∷ []) → Along acts′ t s replies′ t₂ s₂
+        → Along acts t s replies t₁ s₁ → file′ ≡ file → Made means keeps rest shade file′ t₁ s₁ c r t₂ s₂
+        → acts′ ≡ acts ++ (act.Call c ∷ []) → replies′ ≡ replies ++ (r ∷ []) → Along acts′ t s replies′ t₂ s₂
     along-next file′ acts acts′ t t₁ t₂ s s₁ s₂ replies replies′ c r l f d ea er =
         let k = d .0 in
         let cells : ℤ → ℤ → Bool = λ x y. l .reached x y || aimed k (means s₁) x y in
         let here : Standing = record { run = t₂; picture = after k (means s₁); reference = means s; reached = cells } in
         let one : Machine (λ w. w) shade file (begun t (means s) (λ _ _. false)) (acts ++ (act.Call c ∷ [])) (replies ++ (r ∷ [])) here
-              = machine-push (λ w. w) shade file (act.Call c) r here (l .machine) (t₂, k, subst (λ b. Makes (λ w. w) shade b t₁ c r t₂ k) f (d .1), refl) in
+        = machine-push (λ w. w) shade file (act.Call c) r here (l .machine) (t₂, k, subst (λ b. Makes (λ w. w) shade b t₁ c r t₂ k) f (d .1), refl) in
         let there : Along (acts ++ (act.Call c ∷ [])) t s (replies ++ (r ∷ [])) t₂ s₂ = record {
           reached = cells;
           machine = subst (λ n. Machine (λ w. w) shade file (begun t (means s) (λ _ _. false)) (acts ++ (act.Call c ∷ [])) (replies ++ (r ∷ [])) (record { run = t₂; picture = n; reference = means s; reached = cells })) (marks-picture means keeps rest k s₁ s₂ (d .2)) one;
@@ -128,7 +128,7 @@ module _ {I : Type 0} (shade : I → ℤ → ℤ → ℕ) (file : List ℕ) wher
         subst (λ made. Along made t s replies′ t₂ s₂) (sym ea) (subst (λ rs. Along (acts ++ (act.Call c ∷ [])) t s rs t₂ s₂) (sym er) there)
 
     pub along-performed : (acts : List (MeterCall I)) (t : Progress) (s : S) (replies : List Reply) (t′ : Progress) (s′ : S) → means s .depth ≤ 16
-      → Along acts t s replies t′ s′ → Performed means keeps rest shade file acts t s replies t′ s′
+        → Along acts t s replies t′ s′ → Performed means keeps rest shade file acts t s replies t′ s′
     along-performed acts t s replies t′ s′ d l = record {
       reached = l .reached;
       led = leads t (means s) (λ _ _. false) (record { run = t′; picture = means s′; reference = means s; reached = l .reached }) d (l .machine);

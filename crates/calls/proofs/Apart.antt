@@ -57,9 +57,9 @@ module _ (k : ℕ) where
       subst (λ q. Mirrored (allowed r c before) (allowed q c′ (seenContext (bit k) before))) (sym er)
       (subst (λ d. Mirrored (allowed r c before) (allowed r d (seenContext (bit k) before))) (sym ec) (alike r))
     where
-    alike : (r : Result (Unit {0}) Refusal) → Mirrored (allowed r c before) (allowed r (seenContext (bit k) c) (seenContext (bit k) before))
-    alike (Ok u) = record { answer = refl; context = refl; mark = still }
-    alike (Err e) = record { answer = refl; context = refl; mark = still }
+      alike : (r : Result (Unit {0}) Refusal) → Mirrored (allowed r c before) (allowed r (seenContext (bit k) c) (seenContext (bit k) before))
+      alike (Ok u) = record { answer = refl; context = refl; mark = still }
+      alike (Err e) = record { answer = refl; context = refl; mark = still }
 
   -- a record on plane k
   plays-seen : (r : Record) (c : DeviceContext) → Mirrored (plays r c) (plays (seenRecord (bit k) r) (seenContext (bit k) c))
@@ -93,7 +93,7 @@ module _ (k : ℕ) where
 
   -- a step on plane k
   pub step-seen : (file : List ℕ) (t : Progress) (a : Result Answer StepFault) (t′ : Progress) (μ : Mark) → Steps (λ w. w) file t a t′ μ
-    → (μ′ : Mark) × Steps (bit k) file (seenProgress (bit k) t) a (seenProgress (bit k) t′) μ′ × Shadow k μ μ′
+      → (μ′ : Mark) × Steps (bit k) file (seenProgress (bit k) t) a (seenProgress (bit k) t′) μ′ × Shadow k μ μ′
   step-seen file t a t′ μ (over p ea et em) = (untouched, over p ea (ap (seenProgress (bit k)) et) refl, subst (λ m. Shadow k m untouched) (sym em) still)
   step-seen file t a t′ μ (lost p l ea et em) = (untouched, lost p l ea (ap (seenProgress (bit k)) et) refl, subst (λ m. Shadow k m untouched) (sym em) still)
   step-seen file t a t′ μ (broken c p b ea et em) =
@@ -105,15 +105,16 @@ module _ (k : ℕ) where
       let m : Mirrored o o′ = subst (λ q. Mirrored q o′) (sym here) (plays-seen r c) in
       let q = end file (t .place) in
       let after : seenProgress (bit k) t′ ≡ past q (o′ .answer) (with-context (o′ .context) (seenProgress (bit k) t))
-            = ap (seenProgress (bit k)) et ∙ sym (past-seen q (o .answer) (with-context (o .context) t))
-              ∙ ap (λ x. past q x (seenProgress (bit k) (with-context (o .context) t))) (sym (m .answer))
-              ∙ ap (λ d. past q (o′ .answer) (with-context d (seenProgress (bit k) t))) (sym (m .context)) in
-      (o′ .mark,
-       played r o′ p s refl (ea ∙ ap (told (t .place)) (sym (m .answer))) after refl,
-       subst (λ x. Shadow k x (o′ .mark)) (sym em) (m .mark))
+      = ap (seenProgress (bit k)) et ∙ sym (past-seen q (o .answer) (with-context (o .context) t))
+      ∙ ap (λ x. past q x (seenProgress (bit k) (with-context (o .context) t))) (sym (m .answer))
+      ∙ ap (λ d. past q (o′ .answer) (with-context d (seenProgress (bit k) t))) (sym (m .context)) in (
+        o′ .mark,
+        played r o′ p s refl (ea ∙ ap (told (t .place)) (sym (m .answer))) after refl,
+        subst (λ x. Shadow k x (o′ .mark)) (sym em) (m .mark),
+      )
 
   draughts-seen : {task task′ : Task} → ShadowTask k task task′ → (r : Reply) (t t′ : Progress) (μ : Mark) → Draughts task r t t′ μ
-    → (μ′ : Mark) × Draughts task′ r (seenProgress (bit k) t) (seenProgress (bit k) t′) μ′ × Shadow k μ μ′
+      → (μ′ : Mark) × Draughts task′ r (seenProgress (bit k) t) (seenProgress (bit k) t′) μ′ × Shadow k μ μ′
   draughts-seen refused r t t′ μ d = (untouched, (d .0, ap (seenProgress (bit k)) (d .1), refl), subst (λ m. Shadow k m untouched) (sym (d .2)) still)
   draughts-seen (drawn {region} {region′} {new} {new′} e w) r t t′ μ d =
       (marked region′ new′, (d .0, ap (seenProgress (bit k)) (d .1), refl), subst (λ m. Shadow k m (marked region′ new′)) (sym (d .2)) (same {region = region} {region′ = region′} {new = new} {new′ = new′} e w))
@@ -121,7 +122,7 @@ module _ (k : ℕ) where
   module _ {I : Type 0} (shade : I → ℤ → ℤ → ℕ) (file : List ℕ) where
     -- a call on plane k
     make-seen : (c : Call I) (r : Reply) (t t′ : Progress) (μ : Mark) → Makes (λ w. w) shade file t c r t′ μ
-      → (μ′ : Mark) × Makes (bit k) shade file (seenProgress (bit k) t) c r (seenProgress (bit k) t′) μ′ × Shadow k μ μ′
+        → (μ′ : Mark) × Makes (bit k) shade file (seenProgress (bit k) t) c r (seenProgress (bit k) t′) μ′ × Shadow k μ μ′
     make-seen call.Step r t t′ μ (a, e, s) = let d = step-seen file t a t′ μ s in (d .0, (a, e, d .1), d .2)
     make-seen (call.Line p from to) r t t′ μ d =
         draughts-seen (subst (λ q. ShadowTask k (lineTask q from to) (lineTask (seenPencil (bit k) p) from to)) (same-pencil p) (line-shadow k p from to)) r t t′ μ d
@@ -134,12 +135,13 @@ module _ (k : ℕ) where
     seenStanding p = record { run = seenProgress (bit k) (p .run); picture = plane k (p .picture); reference = plane k (p .reference); reached = p .reached }
 
     onward-seen : (p : Standing) (t : Progress) (μ μ′ : Mark) → Shadow k μ μ′ → k < p .picture .depth → p .picture .depth ≤ 16
-      → seenStanding (onward p t μ) ≡ onward (seenStanding p) (seenProgress (bit k) t) μ′
+        → seenStanding (onward p t μ) ≡ onward (seenStanding p) (seenProgress (bit k) t) μ′
     onward-seen p t μ μ′ s h d = λ i. record {
       run = seenProgress (bit k) t;
       picture = sym (plane-after k s (p .picture) h d) i;
       reference = plane k (p .reference);
-      reached = λ x y. p .reached x y || sym (plane-aimed k s (p .picture) x y) i }
+      reached = λ x y. p .reached x y || sym (plane-aimed k s (p .picture) x y) i;
+    }
 
     depth-after : (μ : Mark) (m : Meaning) → after μ m .depth ≡ m .depth
     depth-after untouched m = refl
@@ -147,7 +149,7 @@ module _ (k : ℕ) where
 
     -- one call or clearing on plane k, and the depth stays
     act-seen : (a : MeterCall I) (p q : Standing) (r : Reply) → k < p .picture .depth → p .picture .depth ≤ 16 → Acts (λ w. w) shade file p a r q
-      → Acts (bit k) shade file (seenStanding p) a r (seenStanding q) × (q .picture .depth ≡ p .picture .depth)
+        → Acts (bit k) shade file (seenStanding p) a r (seenStanding q) × (q .picture .depth ≡ p .picture .depth)
     act-seen (act.Call c) p q r h d (t, μ, m, e) =
         let s = make-seen c r (p .run) t μ m in
         ((seenProgress (bit k) t, s .0, s .1, ap seenStanding e ∙ onward-seen p t μ (s .0) (s .2) h d), ap (λ (q : Standing). q .picture .depth) e ∙ depth-after μ (p .picture))
@@ -155,7 +157,7 @@ module _ (k : ℕ) where
 
     -- the whole list
     pub planes-apart : {p q : Standing} {acts : List (MeterCall I)} {rs : List Reply} → k < p .picture .depth → p .picture .depth ≤ 16
-      → Machine (λ w. w) shade file p acts rs q → Machine (bit k) shade file (seenStanding p) acts rs (seenStanding q)
+        → Machine (λ w. w) shade file p acts rs q → Machine (bit k) shade file (seenStanding p) acts rs (seenStanding q)
     planes-apart h d none = none
     planes-apart h d (next {p} {q} {s} {a} {acts} {r} {rs} x m) =
         let y = act-seen a p q r h d x in

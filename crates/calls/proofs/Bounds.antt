@@ -91,7 +91,7 @@ module _ {I : Type 0} (shade : I → ℤ → ℤ → ℕ) (file : List ℕ) {S R
 
   module _ (acts : List (MeterCall I)) (t t₁ t₂ : Progress) (m m₁ m₂ : Meter S) (replies : List Reply) (r : Reply) where
     acted : (a : MeterCall I) → Measured acts t m replies t₁ m₁ → Acted means rest shade file t₁ m₁ a r t₂ m₂
-      → Measured (acts ++ (a ∷ [])) t m (replies ++ (r ∷ [])) t₂ m₂
+        → Measured (acts ++ (a ∷ [])) t m (replies ++ (r ∷ [])) t₂ m₂
     acted (act.Call c) l d =
         let k = d .0 in
         let n = means (m₁ .below) in
@@ -100,7 +100,7 @@ module _ {I : Type 0} (shade : I → ℤ → ℤ → ℕ) (file : List ℕ) {S R
         let kept = marks-kept (λ (m : Meter S). means (m .below)) (λ (m : Meter S). bounds (m .kept)) (λ (m : Meter S). rest (m .below)) k m₁ m₂ (d .2) in
         let here : Standing = record { run = t₂; picture = after k n; reference = l .reference; reached = cells } in
         let one : Machine (λ w. w) shade file (begun t (means (m .below)) (held (m .kept))) (acts ++ (act.Call c ∷ [])) (replies ++ (r ∷ [])) here
-              = machine-push (λ w. w) shade file (act.Call c) r here (l .machine) (t₂, k, d .1, refl) in
+        = machine-push (λ w. w) shade file (act.Call c) r here (l .machine) (t₂, k, d .1, refl) in
         record {
           reference = l .reference;
           reached = cells;
@@ -112,26 +112,26 @@ module _ {I : Type 0} (shade : I → ℤ → ℤ → ℕ) (file : List ℕ) {S R
         let n = means (m₁ .below) in
         let here : Standing = record { run = t₁; picture = n; reference = n; reached = λ _ _. false } in
         let one : Machine (λ w. w) shade file (begun t (means (m .below)) (held (m .kept))) (acts ++ (act.Clear ∷ [])) (replies ++ (r ∷ [])) here
-              = machine-push (λ w. w) shade file act.Clear r here (l .machine) (d .0, refl) in
+        = machine-push (λ w. w) shade file act.Clear r here (l .machine) (d .0, refl) in
         record {
           reference = n;
           reached = λ _ _. false;
           machine = subst (λ u. Machine (λ w. w) shade file (begun t (means (m .below)) (held (m .kept))) (acts ++ (act.Clear ∷ [])) (replies ++ (r ∷ [])) (record { run = u; picture = means (m₂ .below); reference = n; reached = λ _ _. false })) (sym (d .1))
-            (subst (λ b. Machine (λ w. w) shade file (begun t (means (m .below)) (held (m .kept))) (acts ++ (act.Clear ∷ [])) (replies ++ (r ∷ [])) (record { run = t₁; picture = means b; reference = n; reached = λ _ _. false })) (sym (d .2)) one);
+              (subst (λ b. Machine (λ w. w) shade file (begun t (means (m .below)) (held (m .kept))) (acts ++ (act.Clear ∷ [])) (replies ++ (r ∷ [])) (record { run = t₁; picture = means b; reference = n; reached = λ _ _. false })) (sym (d .2)) one);
           bounding = none-bounding (m₂ .kept) (d .3);
           others = ap rest (d .2) ∙ l .others;
         }
 
   -- one more
   pub measured-next : (file′ : List ℕ) (acts acts′ : List (MeterCall I)) (t t₁ t₂ : Progress) (m m₁ m₂ : Meter S) (replies replies′ : List Reply) (a : MeterCall I) (r : Reply)
-    → Measured acts t m replies t₁ m₁ → file′ ≡ file → Acted means rest shade file′ t₁ m₁ a r t₂ m₂
-    → acts′ ≡ acts ++ (a ∷ []) → replies′ ≡ replies ++ (r ∷ []) → Measured acts′ t m replies′ t₂ m₂
+      → Measured acts t m replies t₁ m₁ → file′ ≡ file → Acted means rest shade file′ t₁ m₁ a r t₂ m₂
+      → acts′ ≡ acts ++ (a ∷ []) → replies′ ≡ replies ++ (r ∷ []) → Measured acts′ t m replies′ t₂ m₂
   measured-next file′ acts acts′ t t₁ t₂ m m₁ m₂ replies replies′ a r l f d ea er =
       subst (λ made. Measured made t m replies′ t₂ m₂) (sym ea) (subst (λ rs. Measured (acts ++ (a ∷ [])) t m rs t₂ m₂) (sym er)
-        (acted acts t t₁ t₂ m m₁ m₂ replies r a l (subst (λ b. Acted means rest shade b t₁ m₁ a r t₂ m₂) f d)))
+      (acted acts t t₁ t₂ m m₁ m₂ replies r a l (subst (λ b. Acted means rest shade b t₁ m₁ a r t₂ m₂) f d)))
 
   pub measured-metered : (acts : List (MeterCall I)) (t : Progress) (m : Meter S) (replies : List Reply) (t′ : Progress) (m′ : Meter S) → means (m .below) .depth ≤ 16
-    → Measured acts t m replies t′ m′ → Metered means rest shade file acts t (m .below) (m .kept) replies t′ (m′ .below) (m′ .kept)
+      → Measured acts t m replies t′ m′ → Metered means rest shade file acts t (m .below) (m .kept) replies t′ (m′ .below) (m′ .kept)
   measured-metered acts t m replies t′ m′ d l =
       let led = leads shade file t (means (m .below)) (held (m .kept)) (record { run = t′; picture = means (m′ .below); reference = l .reference; reached = l .reached }) d (l .machine) in
       record {

@@ -26,5 +26,5 @@ module _ {S R : Type 0} (means : S → Meaning) (keeps : S → Keep) (rest : S �
 
   -- the same of a task of the pencil as it is seen
   pub draughts : (task : Pencil → Task) (p : Pencil) → Performs means keeps rest (task p) r s s′
-    → (k : Mark) × Draughts (task (seenPencil (λ w. w) p)) (reply.Drawing r) t t k × Marks means keeps rest k s s′
+      → (k : Mark) × Draughts (task (seenPencil (λ w. w) p)) (reply.Drawing r) t t k × Marks means keeps rest k s s′
   draughts task p d = subst (λ q. (k : Mark) × Draughts (task q) (reply.Drawing r) t t k × Marks means keeps rest k s s′) (same-pencil p) (drew (task p) d)

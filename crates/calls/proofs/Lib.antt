@@ -5,3 +5,4 @@ pub mod Apart
 pub mod Along
 pub mod Bounds
 pub mod Played
+pub mod Exactness

@@ -27,8 +27,9 @@ module _ (view : ℕ → ℕ) where
 
   getD-seen : (xs : List Slot) (i : ℕ) → getD (map (seenSlot view) xs) i Empty ≡ seenSlot view (getD xs i Empty)
   getD-seen xs i = elim (cases-lt i (length xs)) [
-      inl h ↦ getD-map (seenSlot view) xs i Empty Empty h
-    | inr h ↦ getD-past (map (seenSlot view) xs) i Empty (let e = length-map xs (seenSlot view) in omega arith) ∙ ap (seenSlot view) (sym (getD-past xs i Empty h)) ]
+    | inl h ↦ getD-map (seenSlot view) xs i Empty Empty h
+    | inr h ↦ getD-past (map (seenSlot view) xs) i Empty (let e = length-map xs (seenSlot view) in omega arith) ∙ ap (seenSlot view) (sym (getD-past xs i Empty h))
+  ]
 
   lowest-seen : (xs : List Slot) (n : ℕ) → lowest (map (seenSlot view) xs) n ≡ lowest xs n
   lowest-seen xs zero = refl

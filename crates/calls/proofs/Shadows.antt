@@ -93,7 +93,7 @@ module _ (k : ℕ) where
   pub line-shadow : (p : Pencil) (from to : Point) → ShadowTask (lineTask p from to) (lineTask (seenPencil (bit k) p) from to)
   line-shadow p from to = either (placed from && placed to)
       (drawn (λ x y. ap (λ b. b && (traced from to (longer from to) x y && holds (p .clip) x y)) (pen-draws (p .pen)))
-        (λ m h s x y. mixed-bit (modeNumber (p .mode)) (colour (p .pen)) (m .word x y) (colour (seenPen (bit k) (p .pen))) (omega arith) (pen-colour (p .pen))))
+      (λ m h s x y. mixed-bit (modeNumber (p .mode)) (colour (p .pen)) (m .word x y) (colour (seenPen (bit k) (p .pen))) (omega arith) (pen-colour (p .pen))))
       refused
 
   pub paint-shadow : (p : Pencil) (area : Area) (code : ℕ) (shade shade′ : ℤ → ℤ → ℕ) → ((x y : ℤ) → shade′ x y ≡ bit k (shade x y)) →
@@ -106,10 +106,10 @@ module _ (k : ℕ) where
       ShadowTask (copyTask p area source code shade) (copyTask (seenPencil (bit k) p) area source code shade′)
   copy-shadow p area source code shade shade′ e = either (ranged area && placed source)
       (drawn (λ x y. refl)
-        (λ m h s x y.
-          let u = x +ℤ (source .x -ℤ area .x) in
-          let v = y +ℤ (source .y -ℤ area .y) in
-          combined-bit code (shade x y) (m .word u v) (m .word x y) (shade′ x y) (bit k (m .word u v)) (bit k (m .word x y)) (omega arith) (e x y) refl refl))
+      (λ m h s x y.
+      let u = x +ℤ (source .x -ℤ area .x) in
+      let v = y +ℤ (source .y -ℤ area .y) in
+      combined-bit code (shade x y) (m .word u v) (m .word x y) (shade′ x y) (bit k (m .word u v)) (bit k (m .word x y)) (omega arith) (e x y) refl refl))
       refused
 
   -- a mark and what it is on plane k
@@ -130,8 +130,9 @@ module _ (k : ℕ) where
     height = m .height;
     depth = 1;
     word = λ x y. plane-word (region x y && m .opens x y) (region′ x y && m .opens x y) (m .depth) (m .word x y) (new m x y) (new′ (plane k m) x y)
-      (ap (λ b. b && m .opens x y) (e x y)) h (w m h s x y) i;
-    opens = m .opens }
+        (ap (λ b. b && m .opens x y) (e x y)) h (w m h s x y) i;
+    opens = m .opens;
+  }
 
   -- it reaches the same cells
   pub plane-aimed : {μ μ′ : Mark} → Shadow μ μ′ → (m : Meaning) (x y : ℤ) → aimed μ′ (plane k m) x y ≡ aimed μ m x y

@@ -70,3 +70,9 @@ module _ {I : Type 0} (view : ℕ → ℕ) (shade : I → ℤ → ℤ → ℕ) (
 -- a call made on a surface
 abbrev pub Made : {S R I : Type 0} → (S → Meaning) → (S → Keep) → (S → R) → (I → ℤ → ℤ → ℕ) → List ℕ → Progress → S → Call I → Reply → Progress → S → Type 0
 Made means keeps rest shade file t s c r t′ s′ = (k : Mark) × Makes (λ w. w) shade file t c r t′ k × Marks means keeps rest k s s′
+
+-- every list of calls has one outcome, and no second
+pub record Exactly {I : Type 0} (shade : I → ℤ → ℤ → ℕ) : Type 0 where
+  pub some : (view : ℕ → ℕ) (file : List ℕ) (p : Standing) (acts : List (MeterCall I)) → (rs : List Reply) × (q : Standing) × Machine view shade file p acts rs q
+  pub one : (view : ℕ → ℕ) (file : List ℕ) (p : Standing) (acts : List (MeterCall I)) (rs rs′ : List Reply) (q q′ : Standing)
+      → Machine view shade file p acts rs q → Machine view shade file p acts rs′ q′ → (rs ≡ rs′) × (q ≡ q′)

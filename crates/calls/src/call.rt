@@ -9,9 +9,24 @@ use player::StepFault;
 #[derive(Drop)]
 pub enum Call<I> {
     Step,
-    Line { pencil: Pencil, from: Point, to: Point },
-    Paint { pencil: Pencil, area: Area, code: u8, ink: I },
-    Copy { pencil: Pencil, area: Area, source: Point, code: u8, ink: I },
+    Line {
+        pencil: Pencil,
+        from: Point,
+        to: Point,
+    },
+    Paint {
+        pencil: Pencil,
+        area: Area,
+        code: u8,
+        ink: I,
+    },
+    Copy {
+        pencil: Pencil,
+        area: Area,
+        source: Point,
+        code: u8,
+        ink: I,
+    },
 }
 
 // A call over a meter, or the meter's clearing.

@@ -9,5 +9,6 @@ pub use call::Call;
 pub use call::MeterCall;
 pub use call::Reply;
 pub use metering::perform_metered;
+pub use performing::machine_is_exact;
 pub use performing::perform;
 pub use whole::play_whole;

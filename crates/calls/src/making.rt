@@ -17,7 +17,18 @@ pub(crate) fn make<S: Surface, I: Ink>(surface: &mut S, run: &mut Run<'_>, call:
     match call {
         Call::Step => Reply::Step(run.step(surface)),
         Call::Line { pencil, from, to } => Reply::Drawing(line(surface, pencil, *from, *to)),
-        Call::Paint { pencil, area, code, ink } => Reply::Drawing(paint(surface, pencil, *area, *code, ink)),
-        Call::Copy { pencil, area, source, code, ink } => Reply::Drawing(copy(surface, pencil, *area, *source, *code, ink)),
+        Call::Paint {
+            pencil,
+            area,
+            code,
+            ink,
+        } => Reply::Drawing(paint(surface, pencil, *area, *code, ink)),
+        Call::Copy {
+            pencil,
+            area,
+            source,
+            code,
+            ink,
+        } => Reply::Drawing(copy(surface, pencil, *area, *source, *code, ink)),
     }
 }

@@ -30,7 +30,12 @@ fn act<S: Surface, I: Ink>(meter: &mut Meter<S>, run: &mut Run<'_>, call: &Meter
 
 // Makes a list of calls and clearings over a meter, and gives every one's reply, in order. Memory is reserved first, so that want of
 // it changes nothing.
-pub fn perform_metered<S: Surface, I: Ink>(meter: &mut Meter<S>, run: &mut Run<'_>, calls: &[MeterCall<I>], heap: Global) -> Result<Vec<Reply>, AllocError>
+pub fn perform_metered<S: Surface, I: Ink>(
+    meter: &mut Meter<S>,
+    run: &mut Run<'_>,
+    calls: &[MeterCall<I>],
+    heap: Global,
+) -> Result<Vec<Reply>, AllocError>
     ensures bytes { λ _. ⌜ now (now (run .exit) .bytes) ≡ now (now (run .entry) .bytes) ⌝ }
     ensures performed { λ r. ⌜ made r (λ v. Metered means rest shade (now (now (run .entry) .bytes)) (now (calls .entry)) (now (run .entry) .progress) (now (meter .entry) .below) (now (meter .entry) .kept) (vec-items v) (now (run .exit) .progress) (now (meter .exit) .below) (now (meter .exit) .kept)) ⌝ }
     ensures untouched { λ r. ⌜ refused r (λ _. (now (run .exit) .progress ≡ now (run .entry) .progress) × (now (meter .exit) ≡ now (meter .entry))) ⌝ }

@@ -12,7 +12,11 @@ use surface::Surface;
 
 // Steps until the run has ended or a file fault comes, and gives every step. Memory is reserved first, so that want of it changes
 // nothing.
-pub fn play_whole<S: Surface>(run: &mut Run<'_>, surface: &mut S, heap: Global) -> Result<Vec<Step>, AllocError>
+pub fn play_whole<S: Surface>(
+    run: &mut Run<'_>,
+    surface: &mut S,
+    heap: Global,
+) -> Result<Vec<Step>, AllocError>
     ensures bytes { λ _. ⌜ now (now (run .exit) .bytes) ≡ now (now (run .entry) .bytes) ⌝ }
     ensures played { λ r. ⌜ made r (λ v. PlayedOut means keeps rest (now (now (run .entry) .bytes)) (now (run .entry) .progress) (now (surface .entry)) (vec-items v) (now (run .exit) .progress) (now (surface .exit))) ⌝ }
     ensures apart { λ r. ⌜ made r (λ v. PlayedApart (now (now (run .entry) .bytes)) (now (run .entry) .progress) (means (now (surface .entry))) (vec-items v) (now (run .exit) .progress) (means (now (surface .exit)))) ⌝ }

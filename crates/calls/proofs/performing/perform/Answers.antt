@@ -24,12 +24,13 @@ loop-call-again g c =
     let calls = c .args .calls .now in
     let here = c .call-item .result in
     let more : map act.Call (take (c .loop-call .call-index + 1) calls) ≡ map act.Call (take (c .loop-call .call-index) calls) ++ (act.Call here ∷ [])
-          = ap (map act.Call) (take-more calls (c .loop-call .call-index) here (c .loop-call-test .taken)) ∙ map-push act.Call (take (c .loop-call .call-index) calls) _
-            ∙ ap (λ x. map act.Call (take (c .loop-call .call-index) calls) ++ (act.Call x ∷ [])) (sym (c .call-item .is)) in
-    (along-next _ _ _ _ _ _ _ _ _ _ _ _ _ _ _ _ here _ (i .0) (i .1) (c .make .ensures .made) more (c .push-reserved .ensures .items),
-     c .make .ensures .bytes ∙ i .1,
-     c .push-reserved .ensures .len ∙ ap (λ n. n + 1) (i .2),
-     omega (arith, c .push-reserved .ensures .capacity, i .3))
+    = ap (map act.Call) (take-more calls (c .loop-call .call-index) here (c .loop-call-test .taken)) ∙ map-push act.Call (take (c .loop-call .call-index) calls) _
+    ∙ ap (λ x. map act.Call (take (c .loop-call .call-index) calls) ++ (act.Call x ∷ [])) (sym (c .call-item .is)) in (
+      along-next _ _ _ _ _ _ _ _ _ _ _ _ _ _ _ _ here _ (i .0) (i .1) (c .make .ensures .made) more (c .push-reserved .ensures .items),
+      c .make .ensures .bytes ∙ i .1,
+      c .push-reserved .ensures .len ∙ ap (λ n. n + 1) (i .2),
+      omega (arith, c .push-reserved .ensures .capacity, i .3),
+    )
 
 pub returns : need.returns
 returns g c =
@@ -37,7 +38,7 @@ returns g c =
     let calls = c .args .calls .now in
     let all : take (c .loop-call .call-index) calls ≡ calls = take-all _ _ (c .loop-call-test .left) in
     let l : Along (g .I·Ink .shade) (c .args .run .now .bytes .now) (g .S·Surface .means) (g .S·Surface .keeps) (g .S·Surface .rest) (map act.Call calls) (c .args .run .now .progress) s (vec-items (c .loop-call .replies)) (c .loop-call .run .progress) (c .loop-call .surface)
-          = subst (λ v. Along (g .I·Ink .shade) (c .args .run .now .bytes .now) (g .S·Surface .means) (g .S·Surface .keeps) (g .S·Surface .rest) (map act.Call v) (c .args .run .now .progress) s (vec-items (c .loop-call .replies)) (c .loop-call .run .progress) (c .loop-call .surface)) all (c .loop-call .inv .0) in
+    = subst (λ v. Along (g .I·Ink .shade) (c .args .run .now .bytes .now) (g .S·Surface .means) (g .S·Surface .keeps) (g .S·Surface .rest) (map act.Call v) (c .args .run .now .progress) s (vec-items (c .loop-call .replies)) (c .loop-call .run .progress) (c .loop-call .surface)) all (c .loop-call .inv .0) in
     record {
       bytes = c .loop-call .inv .1;
       performed = along-performed _ _ _ _ _ _ _ _ _ _ _ (g .S·Surface .sound s .shallow) l;
