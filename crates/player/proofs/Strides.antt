@@ -23,11 +23,11 @@ use Rattle.player.specs.declared.finding.Found.the-variants as found
 use Rattle.player.specs.declared.progress.Phase.the-variants.{Playing}
 use Rattle.player.specs.declared.progress.Progress.{Progress}
 
-same-pen : (p : Pen) → seenPen (λ w. w) p ≡ p
+pub same-pen : (p : Pen) → seenPen (λ w. w) p ≡ p
 same-pen (pen.Solid c) = refl
 same-pen pen.Null = refl
 
-same-brush : (b : Brush) → seenBrush (λ w. w) b ≡ b
+pub same-brush : (b : Brush) → seenBrush (λ w. w) b ≡ b
 same-brush (brush.Solid c) = refl
 same-brush (brush.Hatched s c) = refl
 

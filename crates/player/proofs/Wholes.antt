@@ -52,15 +52,15 @@ ongoing-push (x ∷ ss) s o f = pushed (not (final (x .answer))) (ongoing ss) (o
     pushed false b c e k = e
 
 module _ {S R : Type 0} (means : S → Meaning) (keeps : S → Keep) (rest : S → R) where
-  marks-picture : (k : Mark) (s s′ : S) → Marks means keeps rest k s s′ → after k (means s) ≡ means s′
+  pub marks-picture : (k : Mark) (s s′ : S) → Marks means keeps rest k s s′ → after k (means s) ≡ means s′
   marks-picture untouched s s′ h = ap means (sym h)
   marks-picture (marked region new) s s′ h = sym (h .picture)
 
-  marks-kept : (k : Mark) (s s′ : S) → Marks means keeps rest k s s′ → Kept (keeps s) (aimed k (means s)) (keeps s′)
+  pub marks-kept : (k : Mark) (s s′ : S) → Marks means keeps rest k s s′ → Kept (keeps s) (aimed k (means s)) (keeps s′)
   marks-kept untouched s s′ h = subst (λ u. Kept (keeps s) (λ _ _. false) (keeps u)) (sym h) (kept-none (keeps s) (λ _ _. false) (λ x y t. t))
   marks-kept (marked region new) s s′ h = h .kept
 
-  marks-rest : (k : Mark) (s s′ : S) → Marks means keeps rest k s s′ → rest s′ ≡ rest s
+  pub marks-rest : (k : Mark) (s s′ : S) → Marks means keeps rest k s s′ → rest s′ ≡ rest s
   marks-rest untouched s s′ h = ap rest h
   marks-rest (marked region new) s s′ h = h .rest
 

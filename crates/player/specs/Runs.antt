@@ -89,3 +89,13 @@ Tells file t (Ok tells.Ended) = t .phase ≡ Ended
 Tells file t (Ok (tells.Record r)) = (t .phase ≡ Playing) × ShowsAt file (t .place) r
 Tells file t (Err (fault.File f)) = (t .phase ≡ Playing) × (Lies file (t .place) → ⊥) × (f .cause ≡ Frame) × (f .place ≡ t .place)
 Tells file t (Err (fault.Record f)) = (t .phase ≡ Playing) × BreaksAt file (t .place) (f .cause) × (f .place ≡ t .place)
+
+-- what the next step answers, by what was told
+abbrev pub foretold : (ℕ → ℕ) → Progress → Result Question StepFault → Result Answer StepFault
+foretold view t (Ok tells.Ended) = Ok answer.Ended
+foretold view t (Ok (tells.Record r)) = told (t .place) (plays (seenRecord view r) (t .context) .answer)
+foretold view t (Err f) = Err f
+
+-- whatever the next step is, it answers so
+abbrev pub Foretells : List ℕ → Progress → Result Question StepFault → Type 0
+Foretells file t q = (view : ℕ → ℕ) (a : Result Answer StepFault) (t′ : Progress) (m : Mark) → Steps view file t a t′ m → a ≡ foretold view t q

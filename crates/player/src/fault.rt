@@ -24,7 +24,7 @@ pub impl From<FileFault> for StepFault as StepFaultFromFile {
     ghost converts = { λ f s. s ≡ File f };
 
     fn from(fault: FileFault) -> StepFault {
-        StepFault::File(fault)
+        Self::File(fault)
     }
 }
 

@@ -1,6 +1,6 @@
 ghost use mathlib.Core.Path.{_≡_};
 ghost use Prim.Native.Nat.{_+_, _^_, _<_, _≤_};
-ghost use Rattle.player.specs.Runs.{total, begun, found-end, found-outcome, Obeys, Stepped, Tells};
+ghost use Rattle.player.specs.Runs.{total, begun, found-end, found-outcome, Obeys, Stepped, Tells, Foretells};
 use crate::fault::RecordFault;
 use crate::fault::StepFault;
 use crate::fault::StepFaultFromFile;
@@ -84,7 +84,8 @@ impl<'a> Run<'a> {
 
     // What the next step comes to, as far as the file tells: that the run has ended, the record at its place, or a fault.
     pub fn question(&self) -> Result<Question<'a>, StepFault>
-        ensures { λ r. ⌜ Tells (now (now (self .entry) .bytes)) (now (self .entry) .progress) r ⌝ }
+        ensures tells { λ r. ⌜ Tells (now (now (self .entry) .bytes)) (now (self .entry) .progress) r ⌝ }
+        ensures foretold { λ r. ⌜ Foretells (now (now (self .entry) .bytes)) (now (self .entry) .progress) r ⌝ }
     {
         let place = self.progress.place;
         if let Phase::Ended = self.progress.phase {
@@ -94,13 +95,6 @@ impl<'a> Run<'a> {
             Found::Record { record, end: _ } => Ok(Question::Record(record)),
             Found::Broken { cause, end: _ } => Err(StepFault::Record(RecordFault { cause, place })),
         }
-    }
-
-    // Where the run stands.
-    pub fn progress(&self) -> Progress
-        ensures { λ r. ⌜ r ≡ now (self .entry) .progress ⌝ }
-    {
-        self.progress
     }
 
     // Takes the run away, and answers its counts.

@@ -2,3 +2,4 @@ pub mod Meaning
 pub mod Rects
 pub mod Drawing
 pub mod Facts
+pub mod Sameness

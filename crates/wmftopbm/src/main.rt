@@ -4,6 +4,7 @@ mod options;
 mod picture;
 mod report;
 
+use calls::play_whole;
 use failure::Failure;
 use failure::FailureFromAlloc;
 use failure::FailureFromIo;
@@ -13,7 +14,6 @@ use picture::BYTES;
 use picture::HEIGHT;
 use picture::WIDTH;
 use picture::write_picture;
-use player::play;
 use player::start;
 use raster::Packed;
 use raster::PackedSurface;
@@ -41,7 +41,7 @@ fn convert(rt: &LibcRuntime, trace: bool) -> Result<(), Failure> {
     let mut memory = vec![in heap; 0u8; BYTES]?;
     let mut surface = Packed::new(&mut memory, WIDTH, HEIGHT);
     let mut run = start(checked);
-    let steps = play(&mut run, &mut surface, heap)?;
+    let steps = play_whole(&mut run, &mut surface, heap)?;
     let counts = run.finish();
     write_picture(rt, &surface)?;
     tell(rt, checked, &steps, counts, trace)?;

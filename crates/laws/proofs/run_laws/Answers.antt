@@ -1,0 +1,14 @@
+use Rattle.player.proofs.Single.{some-step, one-step}
+use Rattle.laws.proofs.Ends.{stays, ended-where}
+use Rattle.laws.proofs.Sayings.{answers, starts}
+use Rattle.laws.proofs.Tally.{tallies}
+use Rattle.laws.proofs.run_laws.Needs as need
+
+pub returns : need.returns
+returns c = record {
+  tallies = tallies;
+  answers = answers;
+  starts = starts;
+  stays = stays;
+  outcome = record { some = some-step; one = one-step; ended = ended-where };
+}

@@ -1,0 +1,4 @@
+pub mod Layers
+pub mod Bounds
+pub mod Rows
+pub mod Sounds
