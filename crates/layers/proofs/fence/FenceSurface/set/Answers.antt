@@ -21,4 +21,4 @@ pub returns-else-has : need.returns-else-has
 returns-else-has g c =
     let f = c .fits .x in
     let h = c .fits .y in
-    record { picture = fence-stays _ _ _ _ _ _ (one-outside _ _ _ (simp toZ-ofZ at (c .if-has .ensures tt))); kept = still; rest = refl }
+    record { picture = fence-stays _ (g .S·Surface .means (c .args .self .now .below)) _ _ _ _ (one-outside _ _ _ (simp toZ-ofZ at (c .if-has .ensures tt))); kept = still; rest = refl }
