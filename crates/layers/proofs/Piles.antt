@@ -1,11 +1,11 @@
 -- What a picture seen through layers says of the surface below.
 use mathlib.Core.Path.{_≡_, ap, ap₂, sym, fun-ext, _∙_}
-use mathlib.Core.Bool.{Bool, true, false, cond, _&&_, and-assoc}
+use mathlib.Core.Bool.{Bool, false, cond, _&&_, and-assoc}
 use Prim.Native.Nat.{ℕ, _%_, _^_}
 use native.Mathlib.Omega.{arith}
-use lib.IntN.{ℤ, pos, _+ℤ_, _-ℤ_}
+use lib.IntN.{ℤ}
 use borrow.Author.Differences.{ints}
-use Rattle.surface.specs.Meaning.{Meaning, Frame, frame, drawn}
+use Rattle.surface.specs.Meaning.{Meaning, Frame}
 use Rattle.surface.specs.Rects.{holds}
 use Rattle.layers.specs.Layers.{across, mirrored, Below-fence, Below-mirror, Mirror-of-mirror}
 use Rattle.layers.proofs.Cells.{cellwise}
