@@ -257,11 +257,11 @@ step-rightly : (view : ℕ → ℕ) (file : List ℕ) (t : Progress) (a : Result
 step-rightly view file t a t′ m d s = record {
   says = step-says view file t a t′ m d s .0;
   ended = λ q. ⊎-elim (λ p. one-step view file t a _ t′ _ m _ d (played shown.End (plays shown.End (t .context)) p q refl refl refl refl) .0)
-  (λ p. one-step view file t a _ t′ _ m _ d (over p refl refl refl) .0) (phases (t .phase));
+      (λ p. one-step view file t a _ t′ _ m _ d (over p refl refl refl) .0) (phases (t .phase));
   lost = λ n. ⊎-elim (λ p. one-step view file t a _ t′ _ m _ d (lost p n refl refl refl) .0)
-  (λ p. absurd (n (s .ended p .0))) (phases (t .phase));
+      (λ p. absurd (n (s .ended p .0))) (phases (t .phase));
   passed-over = λ l n. ⊎-elim (λ p. one-step view file t a _ t′ _ m _ d (unlisted l n p) .0)
-  (λ p. absurd (n (inl (s .ended p .1 .0)))) (phases (t .phase));
+      (λ p. absurd (n (inl (s .ended p .1 .0)))) (phases (t .phase));
 }
   where
     unlisted : Lies file (t .place) → (Listed (function file (t .place)) → ⊥) → t .phase ≡ Playing
