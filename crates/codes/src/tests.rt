@@ -1,5 +1,6 @@
 use crate::mode::LineMode;
 use crate::operation::combine;
+use crate::refusal::RefusalDebug;
 use std::test::Fail;
 use std::test::check_eq;
 

@@ -1,3 +1,4 @@
+use metafile::FileFaultDebug;
 use metafile::Record;
 use metafile::check;
 use playback::Answer;
