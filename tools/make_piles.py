@@ -76,10 +76,9 @@ def expected(one, other):
     return '\n'.join([
         'packed', *one.plane(0),
         one.bounds(), 'bytes, bit 6', *one.plane(6),
-        'packed is plane 0 of bytes true, of planes true',
-        *('bytes and planes under %d: true' % 2 ** k for k in range(4)),
-        'bytes and planes the same: false',
-        'in a mirror false, in two true',
+        'packed, plane 0 of bytes: true', 'packed, plane 0 of planes: true',
+        'planes 0 to 3 of bytes, planes: true', 'bytes, planes: false',
+        'in a mirror: false', 'in two mirrors: true',
         'clipped', *other.plane(0),
         'meter, fence, mirror, packed: true', other.bounds(),
         'below the mirror', *(row[::-1] for row in other.plane(0)),

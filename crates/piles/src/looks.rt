@@ -18,19 +18,24 @@ pub fn plane_agrees<S: Surface, T: Surface>(a: &S, b: &T, mask: u16) -> bool {
     true
 }
 
-// A row as text: # where a bit of the mask is set.
+// The rows as text: # where a bit of the mask is set.
 pub fn print_plane<S: Surface>(rt: &LibcRuntime, surface: &S, mask: u16) -> Result<(), Trouble> {
     for y in 0..i32::from(surface.height()) {
         for x in 0..i32::from(surface.width()) {
-            let text = if surface.word(x, y) & mask == 0 {
+            rt.print(if surface.word(x, y) & mask == 0 {
                 "."
             } else {
                 "#"
-            };
-            print!(rt, "{text}")?;
+            })?;
         }
-        println!(rt, "")?;
+        rt.print("\n")?;
     }
+    Ok(())
+}
+
+// A line: what was looked at, and whether it is so.
+pub fn say(rt: &LibcRuntime, what: &str, so: bool) -> Result<(), Trouble> {
+    println!(rt, "{what}: {so}")?;
     Ok(())
 }
 

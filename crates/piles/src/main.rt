@@ -6,6 +6,7 @@ mod trouble;
 
 use looks::plane_agrees;
 use looks::print_plane;
+use looks::say;
 use pile::draw_fenced;
 use pile::draw_lent;
 use pile::draw_metered;
@@ -32,25 +33,32 @@ fn rasters(rt: &LibcRuntime, sample: &[u8]) -> Result<(), Trouble> {
     let mut memory = vec![in heap; 0u8; 16]?;
     let mut packed = Packed::new(&mut memory, WIDTH, HEIGHT);
     draw(sample, &mut packed, heap)?;
-    println!(rt, "packed")?;
+    rt.print("packed\n")?;
     print_plane(rt, &packed, 1)?;
     let mut memory = vec![in heap; 0u8; 128]?;
     let mut bytes = Bytes::new(&mut memory, WIDTH, HEIGHT);
     draw_metered(rt, sample, &mut bytes)?;
-    println!(rt, "bytes, bit 6")?;
+    rt.print("bytes, bit 6\n")?;
     print_plane(rt, &bytes, 64)?;
     let mut memory = vec![in heap; 0u8; 64]?;
     let mut planes = Planes::new(&mut memory, WIDTH, HEIGHT);
     draw(sample, &mut planes, heap)?;
-    let a = plane_agrees(&packed, &bytes, 1);
-    let b = plane_agrees(&packed, &planes, 1);
-    println!(rt, "packed is plane 0 of bytes {a}, of planes {b}")?;
-    for mask in [1u16, 2, 4, 8] {
-        let agrees = plane_agrees(&bytes, &planes, mask);
-        println!(rt, "bytes and planes under {mask}: {agrees}")?;
-    }
-    let alike = same(&bytes, &planes);
-    println!(rt, "bytes and planes the same: {alike}")?;
+    say(
+        rt,
+        "packed, plane 0 of bytes",
+        plane_agrees(&packed, &bytes, 1),
+    )?;
+    say(
+        rt,
+        "packed, plane 0 of planes",
+        plane_agrees(&packed, &planes, 1),
+    )?;
+    say(
+        rt,
+        "planes 0 to 3 of bytes, planes",
+        plane_agrees(&bytes, &planes, 15),
+    )?;
+    say(rt, "bytes, planes", same(&bytes, &planes))?;
     let mut memory = vec![in heap; 0u8; 64]?;
     let below = Planes::new(&mut memory, WIDTH, HEIGHT);
     print_mirrored(rt, sample, below, &planes)
@@ -62,7 +70,7 @@ fn fences(rt: &LibcRuntime, sample: &[u8], clipped: &[u8]) -> Result<(), Trouble
     let mut memory = vec![in heap; 0u8; 16]?;
     let mut packed = Packed::new(&mut memory, WIDTH, HEIGHT);
     draw(clipped, &mut packed, heap)?;
-    println!(rt, "clipped")?;
+    rt.print("clipped\n")?;
     print_plane(rt, &packed, 1)?;
     let mut memory = vec![in heap; 0u8; 16]?;
     let below = Packed::new(&mut memory, WIDTH, HEIGHT);
@@ -70,9 +78,7 @@ fn fences(rt: &LibcRuntime, sample: &[u8], clipped: &[u8]) -> Result<(), Trouble
     let mut memory = vec![in heap; 0u8; 128]?;
     let mut bytes = Bytes::new(&mut memory, WIDTH, HEIGHT);
     draw_lent(rt, sample, &mut bytes, &packed)?;
-    let agrees = plane_agrees(&bytes, &packed, 1);
-    println!(rt, "the lent bytes after: {agrees}")?;
-    Ok(())
+    say(rt, "the lent bytes after", plane_agrees(&bytes, &packed, 1))
 }
 
 fn main(rt: LibcRuntime) -> Result<(), Trouble> {

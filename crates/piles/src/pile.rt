@@ -1,6 +1,7 @@
 use crate::looks::plane_agrees;
 use crate::looks::print_bounds;
 use crate::looks::print_plane;
+use crate::looks::say;
 use crate::playing::draw;
 use crate::trouble::Trouble;
 use crate::trouble::TroubleFromIo;
@@ -43,15 +44,12 @@ pub fn draw_fenced<S: Surface + Drop, T: Surface>(
 ) -> Result<(), Trouble> {
     let mut pile = Meter::new(Fence::new(Mirror::new(below), CLIP));
     draw(sample, &mut pile, rt.alloc())?;
-    let alike = same(&pile, clipped);
-    println!(rt, "meter, fence, mirror, packed: {alike}")?;
+    say(rt, "meter, fence, mirror, packed", same(&pile, clipped))?;
     print_bounds(rt, pile.bounds())?;
     let below = pile.into_below().into_below().into_below();
-    println!(rt, "below the mirror")?;
+    rt.print("below the mirror\n")?;
     print_plane(rt, &below, 1)?;
-    let alike = same(&below, clipped);
-    println!(rt, "the same below: {alike}")?;
-    Ok(())
+    say(rt, "the same below", same(&below, clipped))
 }
 
 // Draws on a lent surface through three layers.
@@ -64,8 +62,7 @@ pub fn draw_lent<S: Surface, T: Surface>(
     let mut pile = Fence::new(Mirror::new(Mirror::new(below)), CLIP);
     draw(sample, &mut pile, rt.alloc())?;
     let agrees = plane_agrees(&pile, clipped, 1);
-    println!(rt, "fence, mirror, mirror, lent bytes: {agrees}")?;
-    Ok(())
+    say(rt, "fence, mirror, mirror, lent bytes", agrees)
 }
 
 // Draws on a surface: in two mirrors it shows what another shows after the same drawing, and in one it does not.
@@ -77,9 +74,7 @@ pub fn print_mirrored<S: Surface + Drop, T: Surface>(
 ) -> Result<(), Trouble> {
     draw(sample, &mut below, rt.alloc())?;
     let mirror = Mirror::new(below);
-    let once = same(&mirror, drawn);
+    say(rt, "in a mirror", same(&mirror, drawn))?;
     let mirror = Mirror::new(mirror);
-    let twice = same(&mirror, drawn);
-    println!(rt, "in a mirror {once}, in two {twice}")?;
-    Ok(())
+    say(rt, "in two mirrors", same(&mirror, drawn))
 }
