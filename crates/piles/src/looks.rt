@@ -4,7 +4,7 @@ use surface::Rect;
 use surface::Surface;
 
 // Whether two pictures of one size agree in the bits of a mask.
-pub fn plane_agrees<S: Surface, T: Surface>(a: &S, b: &T, mask: u16) -> bool {
+pub(crate) fn plane_agrees<S: Surface, T: Surface>(a: &S, b: &T, mask: u16) -> bool {
     if a.width() != b.width() || a.height() != b.height() {
         return false;
     }
@@ -19,7 +19,7 @@ pub fn plane_agrees<S: Surface, T: Surface>(a: &S, b: &T, mask: u16) -> bool {
 }
 
 // The rows as text: # where a bit of the mask is set.
-pub fn print_plane<S: Surface>(rt: &LibcRuntime, surface: &S, mask: u16) -> Result<(), Trouble> {
+pub(crate) fn print_plane<S: Surface>(rt: &LibcRuntime, surface: &S, mask: u16) -> Result<(), Trouble> {
     for y in 0..i32::from(surface.height()) {
         for x in 0..i32::from(surface.width()) {
             rt.print(if surface.word(x, y) & mask == 0 {
@@ -34,13 +34,13 @@ pub fn print_plane<S: Surface>(rt: &LibcRuntime, surface: &S, mask: u16) -> Resu
 }
 
 // A line: what was looked at, and whether it is so.
-pub fn say(rt: &LibcRuntime, what: &str, so: bool) -> Result<(), Trouble> {
+pub(crate) fn say(rt: &LibcRuntime, what: &str, so: bool) -> Result<(), Trouble> {
     println!(rt, "{what}: {so}")?;
     Ok(())
 }
 
 // The rectangle that a meter keeps.
-pub fn print_bounds(rt: &LibcRuntime, bounds: Option<Rect>) -> Result<(), Trouble> {
+pub(crate) fn print_bounds(rt: &LibcRuntime, bounds: Option<Rect>) -> Result<(), Trouble> {
     match bounds {
         None => println!(rt, "bounds none")?,
         Some(rect) => {

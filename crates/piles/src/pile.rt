@@ -25,7 +25,7 @@ const CLIP: Rect = Rect {
 };
 
 // Draws on a lent surface through a meter, and prints its bounds.
-pub fn draw_metered<S: Surface>(
+pub(crate) fn draw_metered<S: Surface>(
     rt: &LibcRuntime,
     sample: &[u8],
     surface: &mut S,
@@ -36,7 +36,7 @@ pub fn draw_metered<S: Surface>(
 }
 
 // Draws through three layers, which must show what a clipped drawing shows; below the mirror it is turned.
-pub fn draw_fenced<S: Surface + Drop, T: Surface>(
+pub(crate) fn draw_fenced<S: Surface + Drop, T: Surface>(
     rt: &LibcRuntime,
     sample: &[u8],
     below: S,
@@ -53,7 +53,7 @@ pub fn draw_fenced<S: Surface + Drop, T: Surface>(
 }
 
 // Draws on a lent surface through three layers.
-pub fn draw_lent<S: Surface, T: Surface>(
+pub(crate) fn draw_lent<S: Surface, T: Surface>(
     rt: &LibcRuntime,
     sample: &[u8],
     below: &mut S,
@@ -66,7 +66,7 @@ pub fn draw_lent<S: Surface, T: Surface>(
 }
 
 // Draws on a surface: in two mirrors it shows what another shows after the same drawing, and in one it does not.
-pub fn print_mirrored<S: Surface + Drop, T: Surface>(
+pub(crate) fn print_mirrored<S: Surface + Drop, T: Surface>(
     rt: &LibcRuntime,
     sample: &[u8],
     mut below: S,

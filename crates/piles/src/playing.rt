@@ -8,22 +8,22 @@ use std::alloc::Global;
 use std::io::Read;
 use surface::Surface;
 
-pub const WIDTH: u32 = 16;
+pub(crate) const WIDTH: u32 = 16;
 
-pub const HEIGHT: u32 = 8;
+pub(crate) const HEIGHT: u32 = 8;
 
 // The bytes of the first sample, which the second follows.
 const FIRST: usize = 220;
 
 // Both samples, from standard input.
-pub fn samples(rt: &LibcRuntime) -> Result<Vec<u8>, Trouble> {
+pub(crate) fn samples(rt: &LibcRuntime) -> Result<Vec<u8>, Trouble> {
     let mut file = Vec::new(rt.alloc());
     let _ = rt.stdin().take(4096).read_to_end(&mut file)?;
     Ok(file)
 }
 
 // The two samples.
-pub fn parted(file: &[u8]) -> (&[u8], &[u8]) {
+pub(crate) fn parted(file: &[u8]) -> (&[u8], &[u8]) {
     if FIRST <= file.len() {
         (&file[0..FIRST], &file[FIRST..])
     } else {
@@ -32,7 +32,7 @@ pub fn parted(file: &[u8]) -> (&[u8], &[u8]) {
 }
 
 // Plays a sample of which no record is refused or passed over.
-pub fn draw<S: Surface>(sample: &[u8], surface: &mut S, heap: Global) -> Result<(), Trouble> {
+pub(crate) fn draw<S: Surface>(sample: &[u8], surface: &mut S, heap: Global) -> Result<(), Trouble> {
     let checked = match check(sample) {
         Ok(checked) => checked,
         Err(_) => return Err(Trouble::Refused),

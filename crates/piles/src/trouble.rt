@@ -3,19 +3,19 @@ use std::io;
 
 // Why the comparison could not be made.
 #[derive(Clone, Copy)]
-pub enum Trouble {
+pub(crate) enum Trouble {
     Memory,
     InOrOut,
     Refused,
 }
 
-pub impl From<io::Error> for Trouble as TroubleFromIo {
+pub(crate) impl From<io::Error> for Trouble as TroubleFromIo {
     fn from(_error: io::Error) -> Trouble {
         Trouble::InOrOut
     }
 }
 
-pub impl From<AllocError> for Trouble as TroubleFromAlloc {
+pub(crate) impl From<AllocError> for Trouble as TroubleFromAlloc {
     fn from(_error: AllocError) -> Trouble {
         Trouble::Memory
     }
