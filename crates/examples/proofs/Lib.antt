@@ -1,0 +1,3 @@
+mod Octets
+mod Cells
+mod Bounds

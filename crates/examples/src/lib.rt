@@ -1,0 +1,11 @@
+// Worked examples, as theorems over the definitions that the contracts use and by the calls themselves.
+mod bytes;
+mod copying;
+mod painting;
+mod setting;
+
+pub use copying::copy_left;
+pub use copying::copy_right;
+pub use painting::Painted;
+pub use painting::paint_block;
+pub use setting::set_in_planes;
