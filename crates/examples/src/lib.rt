@@ -3,9 +3,12 @@ mod bytes;
 mod copying;
 mod painting;
 mod setting;
+mod worked;
 
 pub use copying::copy_left;
 pub use copying::copy_right;
 pub use painting::Painted;
 pub use painting::paint_block;
 pub use setting::set_in_planes;
+pub use worked::Worked;
+pub use worked::worked_examples;
