@@ -29,14 +29,14 @@ cell-is m n l p x v h e s =
     let a : v ≡ bytewise 5 1 m .word (pos x) (pos 0) = cc in
     a ∙ ap (λ z. z .word (pos x) (pos 0)) p
 
--- a bit of four rows of eight
-pub bit-is : (m : List ℕ) (n : Meaning) → length m ≡ 4 → packed 8 4 m ≡ n → (i : ℕ) → i < 32 → bitOf m i ≡ n .word (pos (i % 8)) (pos (i / 8))
-bit-is m n l p i h =
-    let a : i % 8 < 8 = omega arith in
-    let b : i / 8 < 4 = omega arith in
-    let o : has 8 4 (there 8 m) (pos (i % 8)) (pos (i / 8)) ≡ true = grind (arith, ints, tells) in
+-- a bit of h rows of eight
+pub bit-is : (h : ℕ) (m : List ℕ) (n : Meaning) → length m ≡ h → packed 8 h m ≡ n → (i : ℕ) → i < 8 * h → bitOf m i ≡ n .word (pos (i % 8)) (pos (i / 8))
+bit-is h m n l p i b =
+    let c : i % 8 < 8 = omega arith in
+    let d : i / 8 < h = omega arith in
+    let o : has 8 h (there 8 m) (pos (i % 8)) (pos (i / 8)) ≡ true = grind (arith, ints, tells) in
     let q : i / 8 * 8 + i % 8 ≡ i = omega arith in
-    let r : bitOf m i ≡ packed 8 4 m .word (pos (i % 8)) (pos (i / 8)) = cc in
+    let r : bitOf m i ≡ packed 8 h m .word (pos (i % 8)) (pos (i / 8)) = cc in
     r ∙ ap (λ z. z .word (pos (i % 8)) (pos (i / 8))) p
 
 -- a picture of bytes whose size and memory go by other names
@@ -46,8 +46,8 @@ as-bytes f m′ w h w′ h′ e p =
     sym (λ i. bytewise ((w′ ∙ w) i) ((h′ ∙ h) i) m′) ∙ p ∙ (λ i. f (bytewise (w i) (h i) (e i)))
 
 -- the same of a packed picture
-pub as-packed : (f : Meaning → Meaning) {w h w′ h′ : ℕ} {m n : List ℕ} (m′ : List ℕ) → w ≡ 8 → h ≡ 4 → w′ ≡ w → h′ ≡ h → m ≡ n
-    → packed w′ h′ m′ ≡ f (packed w h m) → packed 8 4 m′ ≡ f (packed 8 4 n)
+pub as-packed : (f : Meaning → Meaning) {w h w′ h′ k : ℕ} {m n : List ℕ} (m′ : List ℕ) → w ≡ 8 → h ≡ k → w′ ≡ w → h′ ≡ h → m ≡ n
+    → packed w′ h′ m′ ≡ f (packed w h m) → packed 8 k m′ ≡ f (packed 8 k n)
 as-packed f m′ w h w′ h′ e p =
     sym (λ i. packed ((w′ ∙ w) i) ((h′ ∙ h) i) m′) ∙ p ∙ (λ i. f (packed (w i) (h i) (e i)))
 

@@ -34,9 +34,11 @@ pub record Examples (r : Worked) : Type 0 where
   -- line mode 7 on the pen 12 and the word 10
   pub line-exclusive : mixed 7 12 10 ≡ 6
   pub line-exclusive-called : r .«line_exclusive» ≡ 6
-  -- a line, and one with ties
+  -- a line, and one with ties; each was drawn in a packed picture of eight columns and three rows
   pub gentle : Line (at 0 0) (at 5 2) (at 0 0 ∷ at 1 0 ∷ at 2 1 ∷ at 3 1 ∷ at 4 2 ∷ [])
+  pub gentle-called : r .gentle ≡ 0b1100_0000 ∷ 0b0011_0000 ∷ 0b0000_1000 ∷ []
   pub tied : Line (at 0 0) (at 4 2) (at 0 0 ∷ at 1 1 ∷ at 2 1 ∷ at 3 2 ∷ [])
+  pub tied-called : r .tied ≡ 0b1000_0000 ∷ 0b0110_0000 ∷ 0b0001_0000 ∷ []
   -- three columns and two rows from (1, 1), painted in a packed picture of eight columns and four rows, with a meter on top
   pub memory : r .painted .memory ≡ 0x00 ∷ 0x70 ∷ 0x70 ∷ 0x00 ∷ []
   pub bounds : r .painted .bounds ≡ Some (rect 1 1 4 3)

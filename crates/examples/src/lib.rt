@@ -3,6 +3,7 @@ mod bytes;
 mod copying;
 mod painting;
 mod setting;
+mod tracing;
 mod worked;
 
 pub use copying::copy_left;
@@ -10,5 +11,7 @@ pub use copying::copy_right;
 pub use painting::Painted;
 pub use painting::paint_block;
 pub use setting::set_in_planes;
+pub use tracing::line_gently;
+pub use tracing::line_with_ties;
 pub use worked::Worked;
 pub use worked::worked_examples;

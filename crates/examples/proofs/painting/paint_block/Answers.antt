@@ -17,7 +17,7 @@ unfolding combined ofBits binary
 returns c =
     let m = c .paint-packed-bounds .last .memory in
     let n : length m ≡ 4 = c .paint-packed-bounds .kept .memory in
-    let f = bit-is m _ n (c .paint-packed-bounds .ensures .picture) in
+    let f = bit-is 4 m _ n (c .paint-packed-bounds .ensures .picture) in
     let a : c .byte .result ≡ 0 = byte-is m _ 4 f 0 _ (lit< tt) (c .byte .ensures) (c .byte .ok) in
     let b : c .byte-2 .result ≡ 112 = byte-is m _ 4 f 1 _ (lit< tt) (c .byte-2 .ensures) (c .byte-2 .ok) in
     let d : c .byte-3 .result ≡ 112 = byte-is m _ 4 f 2 _ (lit< tt) (c .byte-3 .ensures) (c .byte-3 .ok) in
