@@ -1,0 +1,4 @@
+mod Octets
+mod Cells
+mod Bounds
+mod Lists
