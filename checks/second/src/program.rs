@@ -1,7 +1,7 @@
 //! What the program writes and answers (docs/pictures-out.md).
 
 use crate::codes::text;
-use crate::file::{self, Fault};
+use crate::file::{self, Fault, Frame};
 use crate::picture::Picture;
 use crate::run::{Answer, Run};
 
@@ -40,10 +40,9 @@ pub fn arguments<S: AsRef<[u8]>>(words: impl IntoIterator<Item = S>) -> Result<b
     Ok(trace)
 }
 
-/// One step as an onlooker sees it: place, function if a record lies there, every cause that holds, and the answer.
-pub struct Seen {
-    pub place: usize,
-    pub function: Option<u16>,
+/// One step as an onlooker sees it: the record that lies there, if any, every cause that holds, and the answer.
+pub struct Seen<'a> {
+    pub frame: Option<Frame<'a>>,
     pub causes: Vec<u8>,
     pub answer: Result<Answer, Fault>,
 }
@@ -70,7 +69,7 @@ pub fn play(input: &[u8], trace: bool, mut see: impl FnMut(&Seen)) -> Outcome {
             Err(fault) => format!("refused {} {}", fault.number, fault.layer()),
         };
         steps += &format!("{place} {name} {word}\n");
-        see(&Seen { place, function: frame.map(|frame| frame.function), causes, answer });
+        see(&Seen { frame, causes, answer });
         match answer {
             Ok(Answer::Ended) => break,
             Err(fault) if fault.number == 5 => {
