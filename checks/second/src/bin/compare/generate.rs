@@ -412,7 +412,7 @@ fn header(r: &mut Random) -> Vec<u8> {
             1 => data[2..4].copy_from_slice(&r.pick(&[0u16, 8, 9, 10, 18, 0x0900, 0x0109, 0xFFFF]).to_le_bytes()),
             2 => data[4..6].copy_from_slice(&r.pick(&[0u16, 0x0100, 0x0300, 0x0200, 0x0101, 0x0301, 0x0400, 3, 0xFFFF]).to_le_bytes()),
             3 => {
-                let size = r.pick(&[0, 1, 9, 11, 12, 13, half - 1, half, half + 1, half + 2, half | 1 << 31, 1 << 31, u32::MAX, u32::MAX / 2]);
+                let size = r.pick(&[0, 1, 9, 11, 12, 13, half - 1, half, half + 1, half + 2, half | 1 << 31, half | 1 << 31, half | 1 << 31, 1 << 31, u32::MAX, u32::MAX / 2]);
                 data[6..10].copy_from_slice(&size.to_le_bytes());
             }
             _ => data[10..12].copy_from_slice(&r.pick(&[0u16, 15, 16, 17, 255, 256, 0x1000, 0xFFFF]).to_le_bytes()),
