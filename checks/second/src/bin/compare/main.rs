@@ -198,6 +198,22 @@ fn main() {
         }
     }
 
+    // input that cannot be read and output that cannot be written: status 1; what else is printed is left open
+    if only.is_none() {
+        let sample = top.join("samples/empty.wmf");
+        for (label, input, output) in [("no input", top.join("samples"), "/dev/null"), ("full output", sample.clone(), "/dev/full")] {
+            let output = File::options().write(true).open(output).unwrap();
+            let status = Command::new(&program)
+                .stdin(File::open(input).unwrap())
+                .stdout(output)
+                .stderr(Stdio::null())
+                .status()
+                .unwrap();
+            let differs = (status.code() != Some(1)).then(|| format!("{status} and not 1"));
+            note(label, differs, &fs::read(&sample).unwrap(), format!("{}.wmf", label.replace(' ', "-")));
+        }
+    }
+
     let (mut reached, mut kinds) = (Reached::default(), BTreeMap::new());
     for index in only.map_or(0..count, |i| i..i + 1) {
         let (kind, make) = KINDS[index as usize % KINDS.len()];
