@@ -71,8 +71,8 @@ enum Kind {
 use Kind::*;
 
 const ALL: [Kind; 14] = [Window, Viewport, Move, Line, Paint, Copy, Clip, Mode, Back, Brush, Pen, Select, Delete, Unlisted];
-const OFTEN: [Kind; 24] = [
-    Window, Viewport, Move, Move, Line, Line, Line, Line, Line, Paint, Paint, Paint, Paint, Copy, Copy, Copy, Copy, Mode, Back, Brush,
+const OFTEN: [Kind; 25] = [
+    Window, Viewport, Clip, Move, Move, Line, Line, Line, Line, Line, Paint, Paint, Paint, Paint, Copy, Copy, Copy, Copy, Mode, Back, Brush,
     Pen, Select, Select, Delete,
 ];
 const PAINTS: [u8; 16] = [0x00, 0x05, 0x0A, 0x0F, 0x50, 0x55, 0x5A, 0x5F, 0xA0, 0xA5, 0xAA, 0xAF, 0xF0, 0xF5, 0xFA, 0xFF];
@@ -182,7 +182,7 @@ impl<'r> Maker<'r> {
                 let (left, top) = (self.window.0 - self.viewport.0, self.window.1 - self.viewport.1);
                 let (a, b) = (self.r.within(-30, 120), self.r.within(-30, 90));
                 let (c, d) = (self.r.within(400, 600), self.r.within(300, 420));
-                match self.r.percent(if self.ends { 60 } else { 92 }) {
+                match self.r.percent(if self.ends { 60 } else { 97 }) {
                     true => (0x0416, vec![near(top + d), near(left + c), near(top + b), near(left + a)]),
                     false => (0x0416, vec![self.coordinate(true) as u16, self.coordinate(false) as u16, y as u16, x as u16]),
                 }
@@ -324,6 +324,12 @@ fn all_kinds(r: &mut Random, ends: bool) -> Vec<u8> {
     let objects = r.within(1, 16) as usize;
     let records = r.within(0, 90);
     let mut m = Maker::new(r, objects, ends);
+    if m.r.percent(40) {
+        for _ in 0..objects {
+            let kind = m.r.pick(&[Brush, Brush, Pen]);
+            m.add_sound(kind); // a full table
+        }
+    }
     m.fill(records / 2);
     let mut order = ALL.to_vec();
     while !order.is_empty() {
