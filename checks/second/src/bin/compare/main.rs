@@ -1,7 +1,7 @@
 //! compare [COUNT [SEED]] [--program FILE] [--only INDEX]: holds wmftopbm against the second player.
 //!
-//! COUNT made-up files (default 2000) from SEED (default 1). The program runs as a child process with --trace on each; picture,
-//! trace, report with its counts, and exit status must be the same. A file that differs is kept in checks/failures/.
+//! Arguments, the samples, then COUNT made-up files (default 2000) from SEED (default 1). The program runs as a child process with
+//! --trace on each; picture, trace, report with its counts, and exit status must be the same. A file that differs is kept in checks/failures/.
 
 mod generate;
 
@@ -211,6 +211,23 @@ fn main() {
                 .unwrap();
             let differs = (status.code() != Some(1)).then(|| format!("{status} and not 1"));
             note(label, differs, &fs::read(&sample).unwrap(), format!("{}.wmf", label.replace(' ', "-")));
+        }
+    }
+
+    // the samples
+    if only.is_none() {
+        let mut paths: Vec<PathBuf> = ["samples", "samples/gallery"]
+            .iter()
+            .filter_map(|folder| fs::read_dir(top.join(folder)).ok())
+            .flat_map(|entries| entries.map(|entry| entry.unwrap().path()))
+            .filter(|path| path.extension().is_some_and(|end| end == "wmf"))
+            .collect();
+        paths.sort();
+        println!("{} samples", paths.len());
+        for path in paths {
+            let (data, name) = (fs::read(&path).unwrap(), path.file_name().unwrap().to_string_lossy().into_owned());
+            let found = run(&program, &trace, Input::File(&path));
+            note(&name, difference(&found, &program::play(&data, true, |_| ())), &data, format!("sample-{name}"));
         }
     }
 
