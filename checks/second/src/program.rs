@@ -29,12 +29,17 @@ Exit status: 0 the picture was written, 1 it was not.
 
 /// What the arguments ask for: playing, with or without a trace, or an outcome that needs no input.
 pub fn arguments<S: AsRef<[u8]>>(words: impl IntoIterator<Item = S>) -> Result<bool, Outcome> {
+    let refused = |err: Vec<u8>| Err(Outcome { err, status: 1, ..Outcome::default() });
+    let words: Vec<S> = words.into_iter().collect();
+    if words.iter().any(|word| std::str::from_utf8(word.as_ref()).is_err()) {
+        return refused(b"wmftopbm: reading or writing failed\n".to_vec());
+    }
     let mut trace = false;
     for word in words {
         match word.as_ref() {
             b"--trace" => trace = true,
             b"--help" => return Err(Outcome { out: HELP.into(), ..Outcome::default() }),
-            _ => return Err(Outcome { err: b"wmftopbm: unknown argument, see --help\n".to_vec(), status: 1, ..Outcome::default() }),
+            _ => return refused([b"wmftopbm: unknown argument\n".as_slice(), HELP.as_ref()].concat()),
         }
     }
     Ok(trace)
