@@ -3,6 +3,8 @@ mod mode;
 mod mux;
 mod operation;
 mod refusal;
+#[cfg(test)]
+mod tests;
 
 pub use mode::LineMode;
 pub use mode::LineModeDebug;

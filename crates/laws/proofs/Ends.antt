@@ -27,7 +27,7 @@ use Rattle.player.specs.declared.progress.Phase.the-variants.{Ended}
 use Rattle.player.specs.declared.progress.Progress.{Progress}
 use Rattle.player.specs.declared.whole.Step.{Step}
 use Rattle.player.proofs.Single.{one-step}
-use Rattle.laws.specs.Runs.{Still, Stays}
+use Rattle.laws.specs.Runs.{Still, Stays, Ends}
 
 or-false : (a b : Bool) → a ≡ false → b ≡ false → (a || b) ≡ false
 or-false true b e f = e
@@ -53,8 +53,8 @@ stays view file t m steps t′ m′ cells (next {steps = ss} {u = u} {v = v} {n 
 
 -- Only an end record is answered by ended.
 
-abbrev Ends : Outcome → Type 0
-Ends o = o .answer ≡ Ok answer.Ended
+abbrev Closes : Outcome → Type 0
+Closes o = o .answer ≡ Ok answer.Ended
 
 taken-not : _≡_ {A = Result Answer Refusal} (Ok answer.Taken) (Ok answer.Ended) → ⊥
 taken-not h = let z : _≡_ {A = ℕ} 0 1 = cc in omega arith
@@ -62,15 +62,15 @@ taken-not h = let z : _≡_ {A = ℕ} 0 1 = cc in omega arith
 refused-not : (c : Refusal) → _≡_ {A = Result Answer Refusal} (Err c) (Ok answer.Ended) → ⊥
 refused-not c h = let z : _≡_ {A = ℕ} 0 1 = cc in omega arith
 
-drawn-not : (k : Task) (c before : DeviceContext) → Ends (drawing k c before) → ⊥
+drawn-not : (k : Task) (c before : DeviceContext) → Closes (drawing k c before) → ⊥
 drawn-not (refuse e) c before h = refused-not e h
 drawn-not (draw region new) c before h = taken-not h
 
-allowed-not : (r : Result (Unit {0}) Refusal) (c before : DeviceContext) → Ends (allowed r c before) → ⊥
+allowed-not : (r : Result (Unit {0}) Refusal) (c before : DeviceContext) → Closes (allowed r c before) → ⊥
 allowed-not (Ok u) c before h = taken-not h
 allowed-not (Err e) c before h = refused-not e h
 
-only-end : (view : ℕ → ℕ) (r : Record) (c : DeviceContext) → Ends (plays (seenRecord view r) c) → r ≡ shown.End
+only-end : (view : ℕ → ℕ) (r : Record) (c : DeviceContext) → Closes (plays (seenRecord view r) c) → r ≡ shown.End
 only-end view shown.End c h = refl
 only-end view (shown.SetWindowOrg x y) c h = absurd (taken-not h)
 only-end view (shown.SetViewportOrg x y) c h = absurd (taken-not h)
@@ -94,10 +94,9 @@ told-ended p (Err c) e = absurd (let z : _≡_ {A = ℕ} 0 1 = cc in omega arith
 clash : (f : StepFault) (a : Answer) → _≡_ {A = Result Answer StepFault} (Ok a) (Err f) → ⊥
 clash f a e = let z : _≡_ {A = ℕ} 0 1 = cc in omega arith
 
-pub ended-where : (view : ℕ → ℕ) (file : List ℕ) (t t′ : Progress) (m : Mark)
-    → Steps view file t (Ok answer.Ended) t′ m → (t .phase ≡ Ended) ⊎ ShowsAt file (t .place) shown.End
-ended-where view file t t′ m (over p e g h) = inl p
-ended-where view file t t′ m (lost p l e g h) = absurd (clash _ _ e)
-ended-where view file t t′ m (broken c p b e g h) = absurd (clash _ _ e)
-ended-where view file t t′ m (played r o p s k e g h) =
+pub ends : Ends
+ends view file t t′ m (over p e g h) = inl p
+ends view file t t′ m (lost p l e g h) = absurd (clash _ _ e)
+ends view file t t′ m (broken c p b e g h) = absurd (clash _ _ e)
+ends view file t t′ m (played r o p s k e g h) =
     inr (subst (ShowsAt file (t .place)) (only-end view r (t .context) (ap (λ (o : Outcome). o .answer) (sym k) ∙ told-ended (t .place) (o .answer) e)) s)

@@ -1,3 +1,5 @@
 pub mod Ends
+pub mod Performing
 pub mod Sayings
 pub mod Tally
+pub mod Twice

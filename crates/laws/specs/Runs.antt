@@ -13,6 +13,7 @@ use Rattle.std.specs.declared.result.Result.the-variants.{Ok, Err}
 use Rattle.codes.specs.Refusals.{numbered}
 use Rattle.codes.specs.declared.refusal.Refusal.the-variants.{Frame}
 use Rattle.surface.specs.Meaning.{Meaning}
+use Rattle.surface.specs.Rects.{Keep}
 use Rattle.metafile.specs.Frames.{Lies, function}
 use Rattle.metafile.specs.Functions.{Listed}
 use Rattle.metafile.specs.declared.record.Record.the-variants as shown
@@ -22,7 +23,7 @@ use Rattle.playback.specs.declared.answer.Answer.the-variants as answer
 use Rattle.playback.specs.declared.context.DeviceContext.{DeviceContext}
 use Rattle.playback.specs.declared.context.LogicalPoint.{LogicalPoint}
 use Rattle.player.specs.Finding.{ShowsAt}
-use Rattle.player.specs.Playing.{Plays}
+use Rattle.player.specs.Playing.{Plays, PlayedOut}
 use Rattle.player.specs.Runs.{Steps, begun}
 use Rattle.player.specs.declared.fault.StepFault.{StepFault}
 use Rattle.player.specs.declared.fault.StepFault.the-variants as fault
@@ -119,11 +120,27 @@ abbrev pub Stays : Type 0
 Stays = (view : ℕ → ℕ) (file : List ℕ) (t : Progress) (m : Meaning) (steps : List Step) (t′ : Progress) (m′ : Meaning) (cells : ℤ → ℤ → Bool)
     → Plays view file t m steps t′ m′ cells → t .phase ≡ Ended → Still t m steps t′ m′ cells
 
--- A step has one outcome.
+-- ended is answered by a run that has ended, or at a sound end record
+abbrev pub Ends : Type 0
+Ends = (view : ℕ → ℕ) (file : List ℕ) (t t′ : Progress) (m : Mark)
+    → Steps view file t (Ok answer.Ended) t′ m → (t .phase ≡ Ended) ⊎ ShowsAt file (t .place) shown.End
+
+-- A step has one outcome, and so have as many steps as one likes.
 pub record OneOutcome : Type 0 where
   pub some : (view : ℕ → ℕ) (file : List ℕ) (t : Progress) → (a : Result Answer StepFault) × (t′ : Progress) × (m : Mark) × Steps view file t a t′ m
   pub one : (view : ℕ → ℕ) (file : List ℕ) (t : Progress) (a b : Result Answer StepFault) (u v : Progress) (m n : Mark)
       → Steps view file t a u m → Steps view file t b v n → (a ≡ b) × (u ≡ v) × (m ≡ n)
-  -- ended is answered by a run that has ended, or at a sound end record
-  pub ended : (view : ℕ → ℕ) (file : List ℕ) (t t′ : Progress) (m : Mark)
-      → Steps view file t (Ok answer.Ended) t′ m → (t .phase ≡ Ended) ⊎ ShowsAt file (t .place) shown.End
+  pub whole : (view : ℕ → ℕ) (file : List ℕ) (t : Progress) (m : Meaning) (ss : List Step) (u : Progress) (n : Meaning) (cells : ℤ → ℤ → Bool)
+      (ss′ : List Step) (u′ : Progress) (n′ : Meaning) (cells′ : ℤ → ℤ → Bool)
+      → Plays view file t m ss u n cells → Plays view file t m ss′ u′ n′ cells′ → length ss ≡ length ss′
+      → (ss ≡ ss′) × (u ≡ u′) × (n ≡ n′) × ((x y : ℤ) → cells x y ≡ cells′ x y)
+
+-- A checked file whose records begin at a place, with a table of so many slots, was played on a surface until it stopped.
+pub record Performed {S R : Type 0} (means : S → Meaning) (keeps : S → Keep) (rest : S → R) (file : List ℕ) (place slots : ℕ) (s : S) (steps : List Step) (counts : Counts) (s′ : S) : Type 0 where
+  pub last : Progress
+  pub played : PlayedOut means keeps rest file (begun place slots) s steps last s′
+  pub finished : counts ≡ last .counts
+  pub taken : counts .taken ≡ number was-taken steps
+  pub refused : counts .refused ≡ number was-refused steps
+  pub passed-over : counts .«passed_over» ≡ number was-passed-over steps
+  pub rightly : All (Rightly file) steps

@@ -1,20 +1,19 @@
 -- Cells of spans, strips and rectangles, and pictures that agree cell by cell.
-use mathlib.Core.Path.{_≡_, refl, ap, fun-ext, subst, _∙_, sym}
-use mathlib.Core.Bool.{Bool, true, false, cond, _&&_, _||_, and-assoc}
-use Prim.Native.Nat.{ℕ, _+_, _-_, _%_, _<_, _≤_, _^_, min}
+use mathlib.Core.Path.{_≡_, ap, fun-ext, subst, sym}
+use mathlib.Core.Bool.{_&&_}
+use Prim.Native.Nat.{ℕ, _+_, _-_, _<_, _≤_}
 use native.Mathlib.Omega.{arith}
 use lib.Dec.{T}
-use lib.IntN.{ℤ, pos, negsuc, _+ℤ_, _-ℤ_}
+use lib.IntN.{ℤ, pos, _+ℤ_}
 use lib.Signed.{leZ, ltZ, _≤ℤ_, _<ℤ_}
-use borrow.Author.Differences.{ints, up, down}
-use mathlib.Core.Logic.{_⊎_, inl, inr}
+use borrow.Author.Differences.{ints, up}
+use mathlib.Core.Logic.{inl, inr}
 use Rattle.std.specs.Numbers.{maxZ, minZ}
 use Rattle.std.proofs.shelf.Signed.{clamps}
 use Rattle.std.proofs.shelf.Tests.{cases-bool}
-use Rattle.surface.specs.Meaning.{Meaning, spans, strip, drawn, filled, Sound, inside}
-use Rattle.surface.specs.Facts.{same, and-out, and-in, never, spans-out, spans-in}
+use Rattle.surface.specs.Meaning.{Meaning, spans, strip, Sound, inside}
+use Rattle.surface.specs.Facts.{same, and-out, and-in, spans-out, spans-in}
 use Rattle.surface.specs.Rects.{holds}
-use Rattle.layers.specs.Layers.{fenced}
 use Rattle.surface.specs.declared.rect.Rect.{Rect}
 
 -- cell (x, y) is one of the n cells from (a, b) rightwards

@@ -1,19 +1,18 @@
 -- What a fence makes of sets and fills.
-use mathlib.Core.Path.{_≡_, refl, ap, sym, subst, _∙_}
-use mathlib.Core.Bool.{Bool, true, false, cond, _&&_, and-assoc}
-use mathlib.Core.Logic.{_⊎_, inl, inr}
+use mathlib.Core.Path.{_≡_, ap, sym, subst, _∙_}
+use mathlib.Core.Bool.{true, false, cond, _&&_, and-assoc}
 use Prim.Native.Nat.{ℕ, _%_, _^_}
 use native.Mathlib.Omega.{arith}
 use lib.Dec.{T}
-use lib.IntN.{ℤ, pos, _+ℤ_}
+use lib.IntN.{ℤ}
 use lib.Signed.{leZ, ltZ, _≤ℤ_, _<ℤ_}
 use borrow.Author.Differences.{ints}
-use Rattle.surface.specs.Meaning.{Meaning, spans, strip, drawn, filled}
+use Rattle.surface.specs.Meaning.{Meaning, spans, strip, filled}
 use Rattle.surface.specs.Rects.{holds}
 use Rattle.layers.specs.Layers.{fenced}
 use Rattle.surface.specs.declared.rect.Rect.{Rect}
-use Rattle.layers.proofs.Cells.{cellwise, On, on-out, on-in, In, in-out, in-in}
-use Rattle.surface.specs.Facts.{same, never, and-out, and-in, spans-out, spans-in}
+use Rattle.layers.proofs.Cells.{cellwise, On, on-out, In, in-out, in-in}
+use Rattle.surface.specs.Facts.{same, never, and-out, and-in, spans-out}
 
 -- the cells below are those of the strip inside the fence
 pub fence-fills : (r : Rect) (m m′ : Meaning) (a b x y : ℤ) (k n v : ℕ) → m′ ≡ filled a b k v m → ((p q : ℤ) → strip a b k p q ≡ (strip x y n p q && holds r p q)) → fenced r m′ ≡ filled x y n v (fenced r m)

@@ -1,7 +1,7 @@
 -- What a meter keeps.
 use mathlib.Core.Path.{_≡_, refl, ap, sym, subst, _∙_}
-use mathlib.Core.Bool.{Bool, true, false, _&&_}
-use mathlib.Core.Logic.{_⊎_, inl, inr}
+use mathlib.Core.Bool.{Bool, true, false}
+use mathlib.Core.Logic.{inl, inr}
 use native.Mathlib.Omega.{arith}
 use lib.Dec.{T}
 use lib.IntN.{ℤ, pos, _-ℤ_}
@@ -13,9 +13,9 @@ use Rattle.std.specs.declared.option.Option.{Option}
 use Rattle.std.specs.declared.option.Option.the-variants.{Some, None}
 use Rattle.surface.specs.declared.rect.Rect.{Rect}
 use Rattle.surface.specs.Facts.{and-out, and-in}
-use Rattle.surface.specs.Rects.{holds, held, Within, Grown, Keep, nothing, bounds, Kept, still, more}
+use Rattle.surface.specs.Rects.{Grown, Keep, bounds, Kept, still, more}
 use Rattle.surface.proofs.Keeping.{grown-none, same-rect}
-use Rattle.layers.specs.Bounds.{solid, hull, joined, Ends, Spanned, One-outcome}
+use Rattle.layers.specs.Bounds.{solid, hull, joined, Spanned, One-outcome}
 use Rattle.layers.proofs.Cells.{In, in-out, in-in}
 
 -- rectangles as ranges of columns and rows

@@ -1,13 +1,13 @@
 -- What a mirror makes of reads and fills.
-use mathlib.Core.Path.{_≡_, refl, ap, sym, subst, _∙_}
-use mathlib.Core.Bool.{Bool, true, false, cond, _&&_}
+use mathlib.Core.Path.{_≡_, ap, sym, subst, _∙_}
+use mathlib.Core.Bool.{false, cond, _&&_}
 use Prim.Native.Nat.{ℕ, _%_, _^_}
 use native.Mathlib.Omega.{arith}
 use lib.Dec.{T}
-use lib.IntN.{ℤ, pos, _+ℤ_, _-ℤ_}
+use lib.IntN.{ℤ, pos, _-ℤ_}
 use lib.Signed.{leZ, ltZ, _≤ℤ_, _<ℤ_}
 use borrow.Author.Differences.{ints}
-use Rattle.surface.specs.Meaning.{Meaning, Sound, spans, strip, inside, drawn, filled}
+use Rattle.surface.specs.Meaning.{Meaning, Sound, spans, strip, inside, filled}
 use Rattle.layers.specs.Layers.{across, mirrored}
 use Rattle.layers.specs.Sounds.{across-inside}
 use Rattle.layers.proofs.Cells.{cellwise, open-inside}

@@ -1,5 +1,5 @@
 -- The open cells of a row, cell by cell.
-use mathlib.Core.Path.{_≡_, refl, ap, sym, subst, _∙_}
+use mathlib.Core.Path.{_≡_, refl, sym, subst}
 use mathlib.Core.Bool.{Bool, true, false, _&&_}
 use Prim.Native.Nat.{ℕ, _≤_}
 use native.Mathlib.Omega.{arith}
@@ -12,7 +12,6 @@ use Rattle.std.proofs.shelf.Tests.{both-ways}
 use Rattle.surface.specs.Meaning.{Meaning, Sound, spans, strip}
 use Rattle.layers.specs.Bounds.{Ends}
 use Rattle.layers.specs.Rows.{row, Shut, First, Last}
-use Rattle.surface.specs.declared.rect.Rect.{Rect}
 use Rattle.layers.proofs.Cells.{on-out, on-in, in-in, open-inside}
 use Rattle.surface.specs.Facts.{and-out, and-in, T-true, spans-out, spans-in}
 

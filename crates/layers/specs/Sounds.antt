@@ -1,11 +1,11 @@
 -- The layers of a sound surface are sound, and their frames follow from its frame.
-use mathlib.Core.Path.{_≡_, refl, ap, _∙_}
-use mathlib.Core.Bool.{Bool, true, false, _&&_, and-false}
+use mathlib.Core.Path.{_≡_, ap, _∙_}
+use mathlib.Core.Bool.{_&&_, and-false}
 use Prim.Native.Nat.{ℕ}
 use native.Mathlib.Omega.{arith}
-use lib.IntN.{ℤ, pos, _+ℤ_, _-ℤ_}
+use lib.IntN.{ℤ, pos}
 use borrow.Author.Differences.{ints}
-use Rattle.surface.specs.Meaning.{Meaning, Sound, Frame, frame, spans, inside}
+use Rattle.surface.specs.Meaning.{Meaning, Sound, frame, spans, inside}
 use Rattle.surface.specs.Rects.{holds}
 use Rattle.layers.specs.Layers.{fenced, across, mirrored}
 use Rattle.surface.specs.Facts.{same, spans-out, spans-in}

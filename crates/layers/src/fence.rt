@@ -8,6 +8,7 @@ use surface::Rect;
 use surface::Surface;
 
 // A surface of which only the cells of a rectangle can be open. It shuts cells and blanks none.
+#[derive(Drop)]
 pub struct Fence<S> {
     below: S,
     rect: Rect,

@@ -11,6 +11,7 @@ use surface::Rect;
 use surface::Surface;
 
 // A surface, and the smallest rectangle that holds the open cells that sets and fills reached.
+#[derive(Drop)]
 pub struct Meter<S> {
     below: S,
     kept: Option<Rect>,

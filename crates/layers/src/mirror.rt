@@ -10,6 +10,7 @@ use crate::span::cut;
 use surface::Surface;
 
 // A surface with left and right exchanged.
+#[derive(Drop)]
 pub struct Mirror<S> {
     below: S,
 }

@@ -38,6 +38,7 @@ pub fn start<'a>(checked: Checked<'a>) -> Run<'a>
 }
 
 // What lies at a run's place.
+#[derive(Clone, Copy)]
 pub enum Question<'a> {
     Ended,
     Record(Record<'a>),

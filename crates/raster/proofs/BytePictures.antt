@@ -16,7 +16,7 @@ use Rattle.std.proofs.shelf.Ways.{tells}
 use Rattle.surface.specs.Meaning.{spans, strip, drawn}
 use Rattle.raster.specs.Bits.{among}
 use Rattle.raster.specs.Layout.{has-row, laid, Redrawn, others, row-there}
-use Rattle.raster.specs.Bytewise.{bytes-fit, bytewise, bytewise-rest, Rewritten}
+use Rattle.raster.specs.Bytewise.{bytes-fit, bytewise, bytewise-rest, BytesDrawn}
 use Rattle.raster.proofs.Layouts.{row-fits, redrawn-none, redrawn-row, redrawn-picture, redrawn-others}
 
 -- a fill of the bytes a..e of a memory
@@ -56,14 +56,14 @@ pub fit-memory : (w h n : ℕ) → bytes-fit w h n ≡ true → h * w ≤ n
 fit-memory w h n t = leb-true _ _ (and-parts _ _ t .1)
 
 module _ (w h : ℕ) (m : List ℕ) where
-  pub rewritten-none : (x y : ℤ) (n v : ℕ) → has-row h (row-there w (length m)) y ≡ false → Rewritten w h m (strip x y n) v m
+  pub rewritten-none : (x y : ℤ) (n v : ℕ) → has-row h (row-there w (length m)) y ≡ false → BytesDrawn w h m (strip x y n) v m
   rewritten-none x y n v none =
       record { long = refl; bytes = redrawn-none w h w 8 (row-there w (length m)) (omega arith) (λ i. getD m i 0) x y n v none }
 
   pub rewritten-row : (ys : List ℕ) (x y : ℤ) (n v start from to : ℕ)
       → has-row h (row-there w (length m)) y ≡ true → start ≡ natAbs y * w → from ≤ to → to ≤ w → ((k : ℕ) → k < w → spans x n (pos k) ≡ among from to k)
       → ys ≡ replicate (length (take (start + to - (start + from)) (drop (start + from) m))) (v % 256)
-      → Rewritten w h m (strip x y n) v (putMid (start + from) (start + to - (start + from)) m ys)
+      → BytesDrawn w h m (strip x y n) v (putMid (start + from) (start + to - (start + from)) m ys)
   rewritten-row ys x y n v start from to row s ft tw same f =
       let l : natAbs y * w + w ≤ length m = row-fits h w (length m) y row in
       let em : start + to ≤ length m = omega arith in
@@ -75,14 +75,14 @@ module _ (w h : ℕ) (m : List ℕ) where
             (λ i. let t = fill-at m ys (start + from) (start + to) (v % 256) a em f i in cc);
       }
 
-  pub bytewise-picture : (new : List ℕ) (region : ℤ → ℤ → Bool) (v : ℕ) → Rewritten w h m region v new → bytewise w h new ≡ drawn region (λ _ _. v) (bytewise w h m)
+  pub bytewise-picture : (new : List ℕ) (region : ℤ → ℤ → Bool) (v : ℕ) → BytesDrawn w h m region v new → bytewise w h new ≡ drawn region (λ _ _. v) (bytewise w h m)
   bytewise-picture new region v d =
       let r : Redrawn w h w 8 (row-there w (length m)) region v (λ i. getD m i 0 % 256) (λ i. getD new i 0 % 256) =
       record { units = λ i. cut _ v _ _ (d .bytes .units i) } in
       subst (λ n. laid w h w 8 (row-there w n) (λ i. getD new i 0 % 256) ≡ drawn region (λ _ _. v) (bytewise w h m)) (sym (d .long))
       (redrawn-picture w h w 8 (row-there w (length m)) (omega arith) (λ i. getD m i 0 % 256) (λ i. getD new i 0 % 256) region v r)
 
-  pub bytewise-spared : (new : List ℕ) (region : ℤ → ℤ → Bool) (v : ℕ) (l : GName) → Rewritten w h m region v new → bytewise-rest w h new l ≡ bytewise-rest w h m l
+  pub bytewise-spared : (new : List ℕ) (region : ℤ → ℤ → Bool) (v : ℕ) (l : GName) → BytesDrawn w h m region v new → bytewise-rest w h new l ≡ bytewise-rest w h m l
   bytewise-spared new region v l d =
       let old : ℕ → ℕ = λ i. getD m i 0 in
       let now : ℕ → ℕ = λ i. getD new i 0 in

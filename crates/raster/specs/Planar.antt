@@ -4,13 +4,15 @@ use mathlib.Core.Bool.{Bool, true, cond, _&&_}
 use mathlib.Core.List.{List}
 use Prim.Native.Nat.{ℕ, _+_, _*_, _/_, _%_, _^_}
 use base.Fml.{GName}
+use denote.Ref.{now, name}
 use lib.Dec.{leb, ltb}
 use lib.IntN.{ℤ, pos}
 use lib.ListN.{length}
 use Rattle.surface.specs.Meaning.{Meaning}
 use Rattle.raster.specs.Bits.{bitOf, among}
-use Rattle.raster.specs.Layout.{laid, has, Untouched, sized}
+use Rattle.raster.specs.Layout.{has-row, laid, has, Untouched, sized}
 use Rattle.raster.specs.Packing.{stride}
+use Rattle.raster.specs.declared.planes.Planes.{Planes}
 
 -- the bits of a plane
 abbrev pub plane : ℕ → ℕ → ℕ
@@ -55,3 +57,17 @@ planar-rest w h m lender = record {
   lender = lender;
   spare = λ i. cond (celled w h m (λ _ _. true) i) 0 (bitOf m i);
 }
+
+-- row y is one of the picture's that the memory has
+abbrev pub has-line : Planes → ℤ → Bool
+has-line s y = has-row (s .size .height) (planes-there (s .size .width) (s .size .height) (now (s .memory))) y
+
+abbrev pub picture : Planes → Meaning
+picture s = planar (s .size .width) (s .size .height) (now (s .memory))
+
+abbrev pub untouched : Planes → Untouched
+untouched s = planar-rest (s .size .width) (s .size .height) (now (s .memory)) (name (s .memory))
+
+-- from one state to another: the cells of a region took a word
+abbrev pub Redraws : Planes → (ℤ → ℤ → Bool) → ℕ → Planes → Type 0
+Redraws s region v t = PlanesDrawn (s .size .width) (s .size .height) (now (s .memory)) region v (now (t .memory))

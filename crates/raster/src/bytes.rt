@@ -8,9 +8,9 @@ ghost use Rattle.std.specs.Options.{Cases as BySome};
 ghost use Rattle.surface.specs.Meaning.{inside, strip, filled};
 ghost use Rattle.surface.specs.Rects.{Kept};
 ghost use Rattle.surface.specs.Rects.Keep.{nothing};
-ghost use Rattle.raster.specs.Soundness.{bytewise-sound, bytewise-stays};
-ghost use Rattle.raster.specs.Layout.{has-row, row-there, fitting, Untouched};
-ghost use Rattle.raster.specs.Bytewise.{bytes-fit, bytewise, bytewise-rest, Rewritten};
+ghost use Rattle.raster.specs.Soundness.{bytes-sound, bytes-stays};
+ghost use Rattle.raster.specs.Layout.{fitting, Untouched};
+ghost use Rattle.raster.specs.Bytewise.{bytes-fit, picture, untouched, Redraws, has-line};
 use crate::rows::clip;
 use crate::rows::row_start;
 use crate::size::Size;
@@ -48,7 +48,7 @@ impl<'a> Bytes<'a> {
         ensures height { λ r. ⌜ r .size .height ≡ cond (bytes-fit width height (length (now (memory .entry)))) height 0 ⌝ }
         ensures same { λ r. ⌜ now (r .memory) ≡ now (memory .entry) ⌝ }
         ensures lender { λ r. ⌜ name (r .memory) ≡ name (memory .entry) ⌝ }
-        ensures all_open { λ r. ⌜ ((x y : ℤ) → bytewise (r .size .width) (r .size .height) (now (r .memory)) .opens x y ≡ inside (r .size .width) (r .size .height) x y) ⌝ }
+        ensures all_open { λ r. ⌜ ((x y : ℤ) → picture r .opens x y ≡ inside (r .size .width) (r .size .height) x y) ⌝ }
     {
         if bytes_fit(memory, width, height).is_err() {
             return Bytes {
@@ -77,7 +77,7 @@ impl<'a> Bytes<'a> {
 
     // Where row y begins in the memory.
     fn row_start(&self, y: i32) -> Option<usize>
-        ensures { λ r. ⌜ BySome r (has-row (now (self .entry) .size .height) (row-there (now (self .entry) .size .width) (length (now (now (self .entry) .memory)))) y ≡ false) (λ start. (has-row (now (self .entry) .size .height) (row-there (now (self .entry) .size .width) (length (now (now (self .entry) .memory)))) y ≡ true) × (start ≡ natAbs y * (now (self .entry) .size .width))) ⌝ }
+        ensures { λ r. ⌜ BySome r (has-line (now (self .entry)) y ≡ false) (λ start. (has-line (now (self .entry)) y ≡ true) × (start ≡ natAbs y * (now (self .entry) .size .width))) ⌝ }
     {
         row_start(
             self.memory.len(),
@@ -89,18 +89,18 @@ impl<'a> Bytes<'a> {
 }
 
 pub impl Surface for Bytes<'_> as BytesSurface {
-    ghost means = { λ s. bytewise (s .size .width) (s .size .height) (now (s .memory)) };
+    ghost means = { picture };
 
     ghost keeps = { λ _. nothing };
 
     // The memory behind the picture stays, and the lender too.
     ghost Rest = { Untouched };
 
-    ghost rest = { λ s. bytewise-rest (s .size .width) (s .size .height) (now (s .memory)) (name (s .memory)) };
+    ghost rest = { untouched };
 
-    ghost stays = { λ s t e. bytewise-stays (s .size .width) (s .size .height) (now (s .memory)) (name (s .memory)) (t .size .width) (t .size .height) (now (t .memory)) (name (t .memory)) e };
+    ghost stays = { bytes-stays };
 
-    ghost sound = { λ s. bytewise-sound (s .size .width) (s .size .height) (now (s .memory)) (record { wide = s .size .wide; high = s .size .high; both = s .size .both }) };
+    ghost sound = { bytes-sound };
 
     fn width(&self) -> u16 {
         self.size.width
@@ -129,20 +129,20 @@ pub impl Surface for Bytes<'_> as BytesSurface {
     }
 
     fn set(&mut self, x: i32, y: i32, v: u16)
-        ensures picture { λ _. ⌜ bytewise (now (self .exit) .size .width) (now (self .exit) .size .height) (now (now (self .exit) .memory)) ≡ filled x y 1 v (bytewise (now (self .entry) .size .width) (now (self .entry) .size .height) (now (now (self .entry) .memory))) ⌝ }
-        ensures kept { λ _. ⌜ Kept nothing (λ a b. strip x y 1 a b && bytewise (now (self .entry) .size .width) (now (self .entry) .size .height) (now (now (self .entry) .memory)) .opens a b) nothing ⌝ }
-        ensures rest { λ _. ⌜ bytewise-rest (now (self .exit) .size .width) (now (self .exit) .size .height) (now (now (self .exit) .memory)) (name (now (self .exit) .memory)) ≡ bytewise-rest (now (self .entry) .size .width) (now (self .entry) .size .height) (now (now (self .entry) .memory)) (name (now (self .entry) .memory)) ⌝ }
-        ensures memory { λ _. ⌜ Rewritten (now (self .entry) .size .width) (now (self .entry) .size .height) (now (now (self .entry) .memory)) (strip x y 1) v (now (now (self .exit) .memory)) ⌝ }
+        ensures picture { λ _. ⌜ picture (now (self .exit)) ≡ filled x y 1 v (picture (now (self .entry))) ⌝ }
+        ensures kept { λ _. ⌜ Kept nothing (λ a b. strip x y 1 a b && picture (now (self .entry)) .opens a b) nothing ⌝ }
+        ensures rest { λ _. ⌜ untouched (now (self .exit)) ≡ untouched (now (self .entry)) ⌝ }
+        ensures memory { λ _. ⌜ Redraws (now (self .entry)) (strip x y 1) v (now (self .exit)) ⌝ }
         ensures lender { λ _. ⌜ name (now (self .exit) .memory) ≡ name (now (self .entry) .memory) ⌝ }
     {
         self.fill(x, y, 1, v);
     }
 
     fn fill(&mut self, x: i32, y: i32, n: u16, v: u16)
-        ensures picture { λ _. ⌜ bytewise (now (self .exit) .size .width) (now (self .exit) .size .height) (now (now (self .exit) .memory)) ≡ filled x y n v (bytewise (now (self .entry) .size .width) (now (self .entry) .size .height) (now (now (self .entry) .memory))) ⌝ }
-        ensures kept { λ _. ⌜ Kept nothing (λ a b. strip x y n a b && bytewise (now (self .entry) .size .width) (now (self .entry) .size .height) (now (now (self .entry) .memory)) .opens a b) nothing ⌝ }
-        ensures rest { λ _. ⌜ bytewise-rest (now (self .exit) .size .width) (now (self .exit) .size .height) (now (now (self .exit) .memory)) (name (now (self .exit) .memory)) ≡ bytewise-rest (now (self .entry) .size .width) (now (self .entry) .size .height) (now (now (self .entry) .memory)) (name (now (self .entry) .memory)) ⌝ }
-        ensures memory { λ _. ⌜ Rewritten (now (self .entry) .size .width) (now (self .entry) .size .height) (now (now (self .entry) .memory)) (strip x y n) v (now (now (self .exit) .memory)) ⌝ }
+        ensures picture { λ _. ⌜ picture (now (self .exit)) ≡ filled x y n v (picture (now (self .entry))) ⌝ }
+        ensures kept { λ _. ⌜ Kept nothing (λ a b. strip x y n a b && picture (now (self .entry)) .opens a b) nothing ⌝ }
+        ensures rest { λ _. ⌜ untouched (now (self .exit)) ≡ untouched (now (self .entry)) ⌝ }
+        ensures memory { λ _. ⌜ Redraws (now (self .entry)) (strip x y n) v (now (self .exit)) ⌝ }
         ensures lender { λ _. ⌜ name (now (self .exit) .memory) ≡ name (now (self .entry) .memory) ⌝ }
     {
         let (from, to) = clip(x, n, self.size.width);

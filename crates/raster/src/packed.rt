@@ -9,8 +9,8 @@ ghost use Rattle.surface.specs.Meaning.{inside, strip, filled};
 ghost use Rattle.surface.specs.Rects.{Kept};
 ghost use Rattle.surface.specs.Rects.Keep.{nothing};
 ghost use Rattle.raster.specs.Soundness.{packed-sound, packed-stays};
-ghost use Rattle.raster.specs.Layout.{has-row, fitting, Untouched};
-ghost use Rattle.raster.specs.Packing.{stride, fits, there, packed, packed-rest, Drawn};
+ghost use Rattle.raster.specs.Layout.{fitting, Untouched};
+ghost use Rattle.raster.specs.Packing.{stride, fits, picture, untouched, Redraws, has-line};
 use crate::bits::bit_at;
 use crate::bits::fill_bits;
 use crate::bits::paint_in_byte;
@@ -58,7 +58,7 @@ impl<'a> Packed<'a> {
         ensures height { λ r. ⌜ r .size .height ≡ cond (fits width height (length (now (memory .entry)))) height 0 ⌝ }
         ensures same { λ r. ⌜ now (r .memory) ≡ now (memory .entry) ⌝ }
         ensures lender { λ r. ⌜ name (r .memory) ≡ name (memory .entry) ⌝ }
-        ensures all_open { λ r. ⌜ ((x y : ℤ) → packed (r .size .width) (r .size .height) (now (r .memory)) .opens x y ≡ inside (r .size .width) (r .size .height) x y) ⌝ }
+        ensures all_open { λ r. ⌜ ((x y : ℤ) → picture r .opens x y ≡ inside (r .size .width) (r .size .height) x y) ⌝ }
     {
         if packed_fits(memory, width, height).is_err() {
             return Packed {
@@ -87,7 +87,7 @@ impl<'a> Packed<'a> {
 
     // Where row y begins in the memory.
     fn row_start(&self, y: i32) -> Option<usize>
-        ensures { λ r. ⌜ BySome r (has-row (now (self .entry) .size .height) (there (now (self .entry) .size .width) (now (now (self .entry) .memory))) y ≡ false) (λ start. (has-row (now (self .entry) .size .height) (there (now (self .entry) .size .width) (now (now (self .entry) .memory))) y ≡ true) × (start ≡ natAbs y * stride (now (self .entry) .size .width))) ⌝ }
+        ensures { λ r. ⌜ BySome r (has-line (now (self .entry)) y ≡ false) (λ start. (has-line (now (self .entry)) y ≡ true) × (start ≡ natAbs y * stride (now (self .entry) .size .width))) ⌝ }
     {
         row_start(
             self.memory.len(),
@@ -99,18 +99,18 @@ impl<'a> Packed<'a> {
 }
 
 pub impl Surface for Packed<'_> as PackedSurface {
-    ghost means = { λ s. packed (s .size .width) (s .size .height) (now (s .memory)) };
+    ghost means = { picture };
 
     ghost keeps = { λ _. nothing };
 
     // The padding of the rows and the memory behind the picture stay, and the lender too.
     ghost Rest = { Untouched };
 
-    ghost rest = { λ s. packed-rest (s .size .width) (s .size .height) (now (s .memory)) (name (s .memory)) };
+    ghost rest = { untouched };
 
-    ghost stays = { λ s t e. packed-stays (s .size .width) (s .size .height) (now (s .memory)) (name (s .memory)) (t .size .width) (t .size .height) (now (t .memory)) (name (t .memory)) e };
+    ghost stays = { packed-stays };
 
-    ghost sound = { λ s. packed-sound (s .size .width) (s .size .height) (now (s .memory)) (record { wide = s .size .wide; high = s .size .high; both = s .size .both }) };
+    ghost sound = { packed-sound };
 
     fn width(&self) -> u16 {
         self.size.width
@@ -139,10 +139,10 @@ pub impl Surface for Packed<'_> as PackedSurface {
     }
 
     fn set(&mut self, x: i32, y: i32, v: u16)
-        ensures picture { λ _. ⌜ packed (now (self .exit) .size .width) (now (self .exit) .size .height) (now (now (self .exit) .memory)) ≡ filled x y 1 v (packed (now (self .entry) .size .width) (now (self .entry) .size .height) (now (now (self .entry) .memory))) ⌝ }
-        ensures kept { λ _. ⌜ Kept nothing (λ a b. strip x y 1 a b && packed (now (self .entry) .size .width) (now (self .entry) .size .height) (now (now (self .entry) .memory)) .opens a b) nothing ⌝ }
-        ensures rest { λ _. ⌜ packed-rest (now (self .exit) .size .width) (now (self .exit) .size .height) (now (now (self .exit) .memory)) (name (now (self .exit) .memory)) ≡ packed-rest (now (self .entry) .size .width) (now (self .entry) .size .height) (now (now (self .entry) .memory)) (name (now (self .entry) .memory)) ⌝ }
-        ensures memory { λ _. ⌜ Drawn (now (self .entry) .size .width) (now (self .entry) .size .height) (now (now (self .entry) .memory)) (strip x y 1) v (now (now (self .exit) .memory)) ⌝ }
+        ensures picture { λ _. ⌜ picture (now (self .exit)) ≡ filled x y 1 v (picture (now (self .entry))) ⌝ }
+        ensures kept { λ _. ⌜ Kept nothing (λ a b. strip x y 1 a b && picture (now (self .entry)) .opens a b) nothing ⌝ }
+        ensures rest { λ _. ⌜ untouched (now (self .exit)) ≡ untouched (now (self .entry)) ⌝ }
+        ensures memory { λ _. ⌜ Redraws (now (self .entry)) (strip x y 1) v (now (self .exit)) ⌝ }
         ensures lender { λ _. ⌜ name (now (self .exit) .memory) ≡ name (now (self .entry) .memory) ⌝ }
     {
         if x < 0 || x >= self.size.width as i32 {
@@ -155,10 +155,10 @@ pub impl Surface for Packed<'_> as PackedSurface {
     }
 
     fn fill(&mut self, x: i32, y: i32, n: u16, v: u16)
-        ensures picture { λ _. ⌜ packed (now (self .exit) .size .width) (now (self .exit) .size .height) (now (now (self .exit) .memory)) ≡ filled x y n v (packed (now (self .entry) .size .width) (now (self .entry) .size .height) (now (now (self .entry) .memory))) ⌝ }
-        ensures kept { λ _. ⌜ Kept nothing (λ a b. strip x y n a b && packed (now (self .entry) .size .width) (now (self .entry) .size .height) (now (now (self .entry) .memory)) .opens a b) nothing ⌝ }
-        ensures rest { λ _. ⌜ packed-rest (now (self .exit) .size .width) (now (self .exit) .size .height) (now (now (self .exit) .memory)) (name (now (self .exit) .memory)) ≡ packed-rest (now (self .entry) .size .width) (now (self .entry) .size .height) (now (now (self .entry) .memory)) (name (now (self .entry) .memory)) ⌝ }
-        ensures memory { λ _. ⌜ Drawn (now (self .entry) .size .width) (now (self .entry) .size .height) (now (now (self .entry) .memory)) (strip x y n) v (now (now (self .exit) .memory)) ⌝ }
+        ensures picture { λ _. ⌜ picture (now (self .exit)) ≡ filled x y n v (picture (now (self .entry))) ⌝ }
+        ensures kept { λ _. ⌜ Kept nothing (λ a b. strip x y n a b && picture (now (self .entry)) .opens a b) nothing ⌝ }
+        ensures rest { λ _. ⌜ untouched (now (self .exit)) ≡ untouched (now (self .entry)) ⌝ }
+        ensures memory { λ _. ⌜ Redraws (now (self .entry)) (strip x y n) v (now (self .exit)) ⌝ }
         ensures lender { λ _. ⌜ name (now (self .exit) .memory) ≡ name (now (self .entry) .memory) ⌝ }
     {
         let (from, to) = clip(x, n, self.size.width);

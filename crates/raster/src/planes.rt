@@ -9,10 +9,10 @@ ghost use Rattle.surface.specs.Meaning.{inside, strip, filled};
 ghost use Rattle.surface.specs.Rects.{Kept};
 ghost use Rattle.surface.specs.Rects.Keep.{nothing};
 ghost use Rattle.raster.specs.Bits.{Painted};
-ghost use Rattle.raster.specs.Soundness.{planar-sound, planar-stays};
-ghost use Rattle.raster.specs.Layout.{has-row, fitting, Untouched};
+ghost use Rattle.raster.specs.Soundness.{planes-sound, planes-stays};
+ghost use Rattle.raster.specs.Layout.{fitting, Untouched};
 ghost use Rattle.raster.specs.Packing.{stride};
-ghost use Rattle.raster.specs.Planar.{planes-fit, planes-there, four, planar, planar-rest, Planed, PlanesDrawn};
+ghost use Rattle.raster.specs.Planar.{planes-fit, four, Planed, picture, untouched, Redraws, has-line};
 use crate::bits::bit_at;
 use crate::bits::fill_bits;
 use crate::packed::pitch;
@@ -106,7 +106,7 @@ impl<'a> Planes<'a> {
         ensures height { λ r. ⌜ r .size .height ≡ cond (planes-fit width height (length (now (memory .entry)))) height 0 ⌝ }
         ensures same { λ r. ⌜ now (r .memory) ≡ now (memory .entry) ⌝ }
         ensures lender { λ r. ⌜ name (r .memory) ≡ name (memory .entry) ⌝ }
-        ensures all_open { λ r. ⌜ ((x y : ℤ) → planar (r .size .width) (r .size .height) (now (r .memory)) .opens x y ≡ inside (r .size .width) (r .size .height) x y) ⌝ }
+        ensures all_open { λ r. ⌜ ((x y : ℤ) → picture r .opens x y ≡ inside (r .size .width) (r .size .height) x y) ⌝ }
     {
         if planes_fit(memory, width, height).is_err() {
             return Planes {
@@ -142,7 +142,7 @@ impl<'a> Planes<'a> {
 
     // Where row y begins in the first plane.
     fn row_start(&self, y: i32) -> Option<usize>
-        ensures { λ r. ⌜ BySome r (has-row (now (self .entry) .size .height) (planes-there (now (self .entry) .size .width) (now (self .entry) .size .height) (now (now (self .entry) .memory))) y ≡ false) (λ start. (has-row (now (self .entry) .size .height) (planes-there (now (self .entry) .size .width) (now (self .entry) .size .height) (now (now (self .entry) .memory))) y ≡ true) × (start ≡ natAbs y * stride (now (self .entry) .size .width)) × (start + stride (now (self .entry) .size .width) ≤ now (self .entry) .size .height * stride (now (self .entry) .size .width))) ⌝ }
+        ensures { λ r. ⌜ BySome r (has-line (now (self .entry)) y ≡ false) (λ start. (has-line (now (self .entry)) y ≡ true) × (start ≡ natAbs y * stride (now (self .entry) .size .width)) × (start + stride (now (self .entry) .size .width) ≤ now (self .entry) .size .height * stride (now (self .entry) .size .width))) ⌝ }
     {
         if y < 0 || y >= self.size.height as i32 || self.memory.len() < 4 * self.plane() {
             return None;
@@ -152,18 +152,18 @@ impl<'a> Planes<'a> {
 }
 
 pub impl Surface for Planes<'_> as PlanesSurface {
-    ghost means = { λ s. planar (s .size .width) (s .size .height) (now (s .memory)) };
+    ghost means = { picture };
 
     ghost keeps = { λ _. nothing };
 
     // The padding of the planes' rows and the memory behind the planes stay, and the lender too.
     ghost Rest = { Untouched };
 
-    ghost rest = { λ s. planar-rest (s .size .width) (s .size .height) (now (s .memory)) (name (s .memory)) };
+    ghost rest = { untouched };
 
-    ghost stays = { λ s t e. planar-stays (s .size .width) (s .size .height) (now (s .memory)) (name (s .memory)) (t .size .width) (t .size .height) (now (t .memory)) (name (t .memory)) e };
+    ghost stays = { planes-stays };
 
-    ghost sound = { λ s. planar-sound (s .size .width) (s .size .height) (now (s .memory)) (record { wide = s .size .wide; high = s .size .high; both = s .size .both }) };
+    ghost sound = { planes-sound };
 
     fn width(&self) -> u16 {
         self.size.width
@@ -193,20 +193,20 @@ pub impl Surface for Planes<'_> as PlanesSurface {
     }
 
     fn set(&mut self, x: i32, y: i32, v: u16)
-        ensures picture { λ _. ⌜ planar (now (self .exit) .size .width) (now (self .exit) .size .height) (now (now (self .exit) .memory)) ≡ filled x y 1 v (planar (now (self .entry) .size .width) (now (self .entry) .size .height) (now (now (self .entry) .memory))) ⌝ }
-        ensures kept { λ _. ⌜ Kept nothing (λ a b. strip x y 1 a b && planar (now (self .entry) .size .width) (now (self .entry) .size .height) (now (now (self .entry) .memory)) .opens a b) nothing ⌝ }
-        ensures rest { λ _. ⌜ planar-rest (now (self .exit) .size .width) (now (self .exit) .size .height) (now (now (self .exit) .memory)) (name (now (self .exit) .memory)) ≡ planar-rest (now (self .entry) .size .width) (now (self .entry) .size .height) (now (now (self .entry) .memory)) (name (now (self .entry) .memory)) ⌝ }
-        ensures memory { λ _. ⌜ PlanesDrawn (now (self .entry) .size .width) (now (self .entry) .size .height) (now (now (self .entry) .memory)) (strip x y 1) v (now (now (self .exit) .memory)) ⌝ }
+        ensures picture { λ _. ⌜ picture (now (self .exit)) ≡ filled x y 1 v (picture (now (self .entry))) ⌝ }
+        ensures kept { λ _. ⌜ Kept nothing (λ a b. strip x y 1 a b && picture (now (self .entry)) .opens a b) nothing ⌝ }
+        ensures rest { λ _. ⌜ untouched (now (self .exit)) ≡ untouched (now (self .entry)) ⌝ }
+        ensures memory { λ _. ⌜ Redraws (now (self .entry)) (strip x y 1) v (now (self .exit)) ⌝ }
         ensures lender { λ _. ⌜ name (now (self .exit) .memory) ≡ name (now (self .entry) .memory) ⌝ }
     {
         self.fill(x, y, 1, v);
     }
 
     fn fill(&mut self, x: i32, y: i32, n: u16, v: u16)
-        ensures picture { λ _. ⌜ planar (now (self .exit) .size .width) (now (self .exit) .size .height) (now (now (self .exit) .memory)) ≡ filled x y n v (planar (now (self .entry) .size .width) (now (self .entry) .size .height) (now (now (self .entry) .memory))) ⌝ }
-        ensures kept { λ _. ⌜ Kept nothing (λ a b. strip x y n a b && planar (now (self .entry) .size .width) (now (self .entry) .size .height) (now (now (self .entry) .memory)) .opens a b) nothing ⌝ }
-        ensures rest { λ _. ⌜ planar-rest (now (self .exit) .size .width) (now (self .exit) .size .height) (now (now (self .exit) .memory)) (name (now (self .exit) .memory)) ≡ planar-rest (now (self .entry) .size .width) (now (self .entry) .size .height) (now (now (self .entry) .memory)) (name (now (self .entry) .memory)) ⌝ }
-        ensures memory { λ _. ⌜ PlanesDrawn (now (self .entry) .size .width) (now (self .entry) .size .height) (now (now (self .entry) .memory)) (strip x y n) v (now (now (self .exit) .memory)) ⌝ }
+        ensures picture { λ _. ⌜ picture (now (self .exit)) ≡ filled x y n v (picture (now (self .entry))) ⌝ }
+        ensures kept { λ _. ⌜ Kept nothing (λ a b. strip x y n a b && picture (now (self .entry)) .opens a b) nothing ⌝ }
+        ensures rest { λ _. ⌜ untouched (now (self .exit)) ≡ untouched (now (self .entry)) ⌝ }
+        ensures memory { λ _. ⌜ Redraws (now (self .entry)) (strip x y n) v (now (self .exit)) ⌝ }
         ensures lender { λ _. ⌜ name (now (self .exit) .memory) ≡ name (now (self .entry) .memory) ⌝ }
     {
         let (from, to) = clip(x, n, self.size.width);

@@ -1,23 +1,19 @@
 -- Words that are alike, cell by cell.
-use mathlib.Core.Path.{_≡_, ap, sym, subst, _∙_}
+use mathlib.Core.Path.{_≡_, ap, sym, _∙_}
 use mathlib.Core.Bool.{false, _&&_, and-false}
-use mathlib.Core.Logic.{inl, inr}
 use Prim.Native.Nat.{ℕ}
 use native.Mathlib.Omega.{arith}
-use lib.IntN.{ℤ, pos, _+ℤ_}
+use lib.IntN.{ℤ, pos}
 use lib.Signed.{_≤ℤ_, _<ℤ_}
 use borrow.Author.Differences.{ints}
 use Rattle.std.proofs.shelf.Signed.{by-ltZ}
-use Rattle.surface.specs.Meaning.{Meaning, Sound, spans, inside}
+use Rattle.surface.specs.Meaning.{Meaning, Sound, spans}
 use Rattle.surface.specs.Sameness.{Same, SameRow}
 use Rattle.surface.specs.Facts.{never, spans-out}
 
 -- what holds of the numbers from 0 up to k
 abbrev pub Upto : (ℤ → Type 0) → ℤ → Type 0
 Upto P k = (z : ℤ) → pos 0 ≤ℤ z → z <ℤ k → P z
-
-pub upto-more : (P : ℤ → Type 0) (k k′ : ℤ) → k′ ≡ (k +ℤ pos 1) → Upto P k → P k → Upto P k′
-upto-more P k k′ e h here z low high = by-ltZ z k (λ lt. h z low lt) (λ le. let same : k ≡ z = omega (arith, ints) in subst P same here)
 
 -- what holds of the numbers from 0 up to k and of those outside holds of all
 everywhere : (P : ℤ → Type 0) (k : ℤ) (n : ℕ) → k ≡ pos n → Upto P k → ((z : ℤ) → spans (pos 0) n z ≡ false → P z) → (z : ℤ) → P z

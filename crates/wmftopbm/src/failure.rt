@@ -6,20 +6,20 @@ use std::io;
 
 // Why no picture was written.
 #[derive(Clone, Copy)]
-pub enum Failure {
+pub(crate) enum Failure {
     Usage,
     Refused(FileFault),
     Memory,
     InOrOut,
 }
 
-pub impl From<io::Error> for Failure as FailureFromIo {
+pub(crate) impl From<io::Error> for Failure as FailureFromIo {
     fn from(_error: io::Error) -> Failure {
         Failure::InOrOut
     }
 }
 
-pub impl From<AllocError> for Failure as FailureFromAlloc {
+pub(crate) impl From<AllocError> for Failure as FailureFromAlloc {
     fn from(_error: AllocError) -> Failure {
         Failure::Memory
     }
@@ -27,7 +27,7 @@ pub impl From<AllocError> for Failure as FailureFromAlloc {
 
 impl Failure {
     // Says it on standard error, as far as that can be written.
-    pub fn tell(self, rt: &LibcRuntime) {
+    pub(crate) fn tell(self, rt: &LibcRuntime) {
         let told = match self {
             Failure::Usage => eprint!(rt, "wmftopbm: unknown argument\n{USAGE}"),
             Failure::Refused(fault) => {

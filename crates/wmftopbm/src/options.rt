@@ -3,7 +3,7 @@ use std::io;
 
 // What the arguments ask for.
 #[derive(Clone, Copy)]
-pub enum Options {
+pub(crate) enum Options {
     Play { trace: bool },
     Help,
     Unknown,
@@ -11,7 +11,7 @@ pub enum Options {
 
 impl Options {
     // The first argument that is `--help` or not known decides.
-    pub fn parse(rt: &LibcRuntime) -> io::Result<Options> {
+    pub(crate) fn parse(rt: &LibcRuntime) -> io::Result<Options> {
         let mut trace = false;
         for argument in env::args(rt)?.skip(1) {
             match argument.as_str() {

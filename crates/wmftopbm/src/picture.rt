@@ -6,18 +6,18 @@ use pbm::write_row;
 use std::io::Write;
 use surface::Surface;
 
-pub const WIDTH: u32 = 576;
+pub(crate) const WIDTH: u32 = 576;
 
-pub const HEIGHT: u32 = 400;
+pub(crate) const HEIGHT: u32 = 400;
 
 // The bytes of the packed picture.
-pub const BYTES: usize = 28800;
+pub(crate) const BYTES: usize = 28800;
 
 // The bytes of a header or of the longest row.
 const LINE: usize = 512;
 
 // Writes the PBM of a picture to standard output.
-pub fn write_picture<S: Surface>(rt: &LibcRuntime, surface: &S) -> Result<(), Failure> {
+pub(crate) fn write_picture<S: Surface>(rt: &LibcRuntime, surface: &S) -> Result<(), Failure> {
     let mut out = Vec::with_capacity(rt.alloc(), BYTES + 16)?;
     add_header(&mut out, surface)?;
     for y in 0..u32::from(surface.height()) {

@@ -8,7 +8,7 @@ use player::Step;
 use player::StepFault;
 use std::io;
 
-pub const USAGE: &str = "usage: wmftopbm [--trace] < FILE.wmf > FILE.pbm
+pub(crate) const USAGE: &str = "usage: wmftopbm [--trace] < FILE.wmf > FILE.pbm
 
 Plays a Windows metafile on a one-bit picture of 576 x 400 cells
 and writes the picture as a PBM.
@@ -23,7 +23,7 @@ Exit status: 0 the picture was written, 1 it was not.
 const TOLD: usize = 20;
 
 // A cause of refusal in words.
-pub fn cause(refusal: Refusal) -> &'static str {
+pub(crate) fn cause(refusal: Refusal) -> &'static str {
     match refusal {
         Refusal::Size => "width or height outside 1 to 4096",
         Refusal::Memory => "memory shorter than the picture",
@@ -44,7 +44,7 @@ pub fn cause(refusal: Refusal) -> &'static str {
 }
 
 // Tells on standard error what happened; with `trace`, step by step.
-pub fn tell(
+pub(crate) fn tell(
     rt: &LibcRuntime,
     checked: Checked<'_>,
     steps: &[Step],

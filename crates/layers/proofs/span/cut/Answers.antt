@@ -1,5 +1,3 @@
-use mathlib.Core.Logic.{inl, inr}
-use mathlib.Core.Path.{refl}
 use native.Mathlib.Omega.{arith}
 use borrow.Author.Differences.{ints}
 use Rattle.std.proofs.shelf.Signed.{clamps}

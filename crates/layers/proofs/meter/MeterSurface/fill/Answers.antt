@@ -1,4 +1,3 @@
-use mathlib.Core.Path.{sym, subst}
 use Rattle.std.proofs.shelf.Signed.{toZ-ofZ}
 use Rattle.surface.specs.Rects.{more}
 use Rattle.layers.proofs.Meters.{grown-joined, solid-joined}

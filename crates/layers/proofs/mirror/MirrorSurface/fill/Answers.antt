@@ -1,13 +1,13 @@
 use Rattle.surface.specs.Rects.{still}
-use mathlib.Core.Path.{refl, _≡_, ap, sym, _∙_}
+use mathlib.Core.Path.{_≡_, ap, _∙_}
 use mathlib.Core.Bool.{_&&_}
 use native.Mathlib.Omega.{arith}
 use borrow.Author.Needs.{needs}
 use borrow.Author.Differences.{ints}
-use lib.IntN.{ℤ, pos, _-ℤ_}
+use lib.IntN.{ℤ, pos}
 use lib.Signed.{leZ, ltZ}
 use mir.Syntax.{w32}
-use mir.Val.{SFits, toZ, ofZ}
+use mir.Val.{SFits}
 use Rattle.std.proofs.shelf.Signed.{toZ-ofZ}
 use Rattle.surface.specs.Meaning.{spans}
 use Rattle.layers.proofs.Mirrors.{mirror-fills, across-span}

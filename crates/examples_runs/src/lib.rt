@@ -1,0 +1,3 @@
+// Worked examples of runs.
+#[cfg(test)]
+mod tests;

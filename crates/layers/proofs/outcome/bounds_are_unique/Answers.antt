@@ -1,5 +1,0 @@
-use Rattle.layers.proofs.Meters.{one-outcome}
-use Rattle.layers.proofs.outcome.bounds_are_unique.Needs as need
-
-pub returns : need.returns
-returns c = one-outcome
