@@ -19,7 +19,11 @@ pub(crate) fn plane_agrees<S: Surface, T: Surface>(a: &S, b: &T, mask: u16) -> b
 }
 
 // The rows as text: # where a bit of the mask is set.
-pub(crate) fn print_plane<S: Surface>(rt: &LibcRuntime, surface: &S, mask: u16) -> Result<(), Trouble> {
+pub(crate) fn print_plane<S: Surface>(
+    rt: &LibcRuntime,
+    surface: &S,
+    mask: u16,
+) -> Result<(), Trouble> {
     for y in 0..i32::from(surface.height()) {
         for x in 0..i32::from(surface.width()) {
             rt.print(if surface.word(x, y) & mask == 0 {

@@ -32,7 +32,11 @@ pub(crate) fn parted(file: &[u8]) -> (&[u8], &[u8]) {
 }
 
 // Plays a sample of which no record is refused or passed over.
-pub(crate) fn draw<S: Surface>(sample: &[u8], surface: &mut S, heap: Global) -> Result<(), Trouble> {
+pub(crate) fn draw<S: Surface>(
+    sample: &[u8],
+    surface: &mut S,
+    heap: Global,
+) -> Result<(), Trouble> {
     let checked = match check(sample) {
         Ok(checked) => checked,
         Err(_) => return Err(Trouble::Refused),
