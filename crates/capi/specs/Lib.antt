@@ -1,2 +1,4 @@
 pub mod Reports
 pub mod Listening
+pub mod Playing
+pub mod Spares
