@@ -1,13 +1,14 @@
 /* gdiplay LIST: plays metafiles by GDI on a one-bit picture of 576 x 400 cells and writes PBMs.
 
-   Every line of LIST is IN.wmf, a space and OUT.pbm, without further spaces. The picture is a DIB section of one bit
-   a pixel, rows from the top, all 0, with colour 0 black and colour 1 white. The file is given to GDI whole
-   (SetMetaFileBitsEx, EnumMetaFile), and GDI plays its records (PlayMetaFileRecord) with two exceptions:
+   Every line of LIST has three words: IN.wmf, OUT.pbm, and `whole` or `records`. The picture is a DIB section of
+   one bit a pixel, rows from the top, all 0, with colour 0 black and colour 1 white. The file's bytes are given to
+   GDI (SetMetaFileBitsEx). With `whole`, PlayMetaFile plays them. With `records`, EnumMetaFile goes through the
+   records and PlayMetaFileRecord plays each, with two changes:
 
      - META_BITBLT without a bitmap (12 words) becomes BitBlt from the device context onto itself. Wine reads
-       every such record as one with a bitmap.
-     - A colour 0x0100nnnn means entry nnnn of the selected palette. The palette has the entries 0, black, and
-       1, white; of nnnn only bit 0 is kept.
+       it as if a bitmap followed.
+     - A colour 0x0100nnnn means entry nnnn of the selected palette. The palette has entry 0, black, and entry 1,
+       white; of nnnn bit 0 alone is kept.
 
    Nothing is set before playing: GDI starts with a black pen, a white brush, white as back colour, opaque
    background and R2_COPYPEN. */
@@ -49,7 +50,7 @@ static int CALLBACK record(HDC dc, HANDLETABLE *table, METARECORD *given, int ob
     return 1;
 }
 
-static int play(const char *in, const char *out)
+static int play(const char *in, const char *out, int whole)
 {
     static unsigned char data[65536], row[STRIDE];
     struct { BITMAPINFOHEADER header; RGBQUAD colours[2]; } info;
@@ -85,7 +86,10 @@ static int play(const char *in, const char *out)
     first = SelectObject(dc, picture);
     SelectPalette(dc, colours, FALSE);
     RealizePalette(dc);
-    EnumMetaFile(dc, file, record, 0);
+    if (whole)
+        PlayMetaFile(dc, file);
+    else
+        EnumMetaFile(dc, file, record, 0);
     GdiFlush();
     f = fopen(out, "wb");
     if (!f)
@@ -107,14 +111,14 @@ static int play(const char *in, const char *out)
 
 int main(int count, char **words)
 {
-    char line[1024], in[512], out[512];
+    char line[1024], in[256], out[256], how[256];
     int fine = 1;
     FILE *list = count == 2 ? fopen(words[1], "r") : NULL;
     if (!list)
         return fprintf(stderr, "usage: gdiplay LIST\n"), 2;
     while (fgets(line, sizeof line, list))
-        if (sscanf(line, "%511s %511s", in, out) == 2)
-            fine &= play(in, out);
+        if (sscanf(line, "%255s %255s %255s", in, out, how) == 3)
+            fine &= play(in, out, !strcmp(how, "whole"));
     fclose(list);
     return !fine;
 }
