@@ -117,12 +117,14 @@ def some_paints(m, r, count, codes=PAINTS, spread=30):
         m.paint(*point(r, spread), r.randrange(0, 130), r.randrange(0, 110), r.choice(codes))
 
 
-def copy_apart(m, r, code, spread=0):
-    """A copy whose source lies in the picture and does not touch the target; the target may cross the edge."""
+def copy_apart(m, r, code, spread=0, step=1):
+    """A copy whose source lies in the picture and does not touch the target; the target may cross the edge.
+    The distance in x and the target's y are multiples of step: with 4, Wine does not shift hatches."""
     while True:
         w, h = r.randrange(1, 140), r.randrange(1, 120)
         sx, sy = r.randrange(0, WIDTH - w + 1), r.randrange(0, HEIGHT - h + 1)
         x, y = r.randrange(-spread, WIDTH - w + 1 + spread), r.randrange(-spread, HEIGHT - h + 1 + spread)
+        x, y = x - (x - sx) % step, y - y % step
         if abs(x - sx) >= w or abs(y - sy) >= h:
             return m.copy(x, y, w, h, sx, sy, code)
 
@@ -134,8 +136,9 @@ def some_origins(m, r):
     m.origins(window, viewport)
 
 
-def some_clip(m, r):
-    left, top = r.randrange(-40, 200), r.randrange(-40, 150)
+def some_clip(m, r, step=1):
+    """A clip of some size whose top is a multiple of step, as in copy_apart: the clip is a target's top."""
+    left, top = r.randrange(-40, 200), r.randrange(-40, 150, step)
     m.clip(left, top, r.randrange(max(left, 300), WIDTH + 60), r.randrange(max(top, 200), HEIGHT + 60))
 
 
@@ -260,7 +263,7 @@ def hatch_copy_file(r, style, colour, back):
     m.back_colour(back)
     m.brush(0, colour, 2, style)
     for _ in range(24):
-        copy_apart(m, r, r.randrange(256), 20)
+        copy_apart(m, r, r.randrange(256), 20, 4)
     return m
 
 
@@ -308,7 +311,7 @@ def object_file(r, colours, copies):
         some_lines(m, r, 2)
         some_paints(m, r, 1, (0xF0, 0x5A, 0xA5))
         if copies and r.random() < 0.3:
-            copy_apart(m, r, r.randrange(256), 20)
+            copy_apart(m, r, r.randrange(256), 20, 4)
     return m
 
 
@@ -323,11 +326,11 @@ def mixed_file(r, colours, copies):
         elif k < 0.45:
             some_paints(m, r, 1)
         elif k < 0.6:
-            copy_apart(m, r, r.randrange(256), 60) if copies else some_paints(m, r, 1, (0x55, 0x5A))
+            copy_apart(m, r, r.randrange(256), 60, 4) if copies else some_paints(m, r, 1, (0x55, 0x5A))
         elif k < 0.65:
             some_origins(m, r)
         elif k < 0.67:
-            some_clip(m, r)
+            some_clip(m, r, 4)
         elif k < 0.75:
             m.rop2(r.randrange(1, 17), r.choice((None, 0)))
         elif k < 0.8:

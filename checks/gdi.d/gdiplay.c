@@ -10,8 +10,8 @@
      - A colour 0x0100nnnn means entry nnnn of the selected palette. The palette has entry 0, black, and entry 1,
        white; of nnnn bit 0 alone is kept.
 
-   Nothing is set before playing: GDI starts with a black pen, a white brush, white as back colour, opaque
-   background and R2_COPYPEN. */
+   GDI starts with a black pen, a white brush, white as back colour, opaque background and R2_COPYPEN. The back colour
+   is set to palette entry 1, also white: Wine compares it with a hatched brush's colour by their values. */
 #include <windows.h>
 #include <stdio.h>
 #include <stdlib.h>
@@ -86,6 +86,7 @@ static int play(const char *in, const char *out, int whole)
     first = SelectObject(dc, picture);
     SelectPalette(dc, colours, FALSE);
     RealizePalette(dc);
+    SetBkColor(dc, PALETTEINDEX(1));
     if (whole)
         PlayMetaFile(dc, file);
     else
