@@ -1,11 +1,11 @@
 #!/usr/bin/env python3
 """files.py FOLDER [SEED]: writes the metafiles of checks/gdi into FOLDER, and FOLDER/files.txt with a line for each:
 
-    same|departs GROUP NAME whole|records
+    same|departs GROUP NAME whole|records|through
 
 Files `same` keep to what GDI and docs/ define alike, and must give equal pictures. Files `departs` each have one thing
 that Wine does in another way (docs/gdi.md); they are counted apart. `whole` files can be given to PlayMetaFile:
-they have no META_BITBLT and no colours but 0 and 1.
+they have no META_BITBLT and no colours but 0 and 1. `records` and `through` are the other two ways of gdiplay.c.
 """
 import math
 import os
@@ -15,7 +15,7 @@ import sys
 top = os.path.dirname(os.path.dirname(os.path.dirname(os.path.abspath(__file__))))
 sys.dont_write_bytecode = True
 sys.path.insert(0, os.path.join(top, 'tools'))
-from make_samples import Metafile, BLACKNESS, WHITENESS, PATCOPY, DSTINVERT, SRCCOPY
+from make_samples import Metafile, text
 
 WIDTH, HEIGHT = 576, 400
 PAINTS = (0x00, 0x05, 0x0A, 0x0F, 0x50, 0x55, 0x5A, 0x5F, 0xA0, 0xA5, 0xAA, 0xAF, 0xF0, 0xF5, 0xFA, 0xFF)
@@ -26,6 +26,11 @@ def tie(dx, dy):
     """Whether the line passes half way between two cells at one of its steps."""
     most = max(abs(dx), abs(dy))
     return most != 0 and most // math.gcd(dx, dy) % 2 == 0
+
+
+def tie_apart(dx, dy):
+    """Whether docs/ and Wine take a tie to different cells: Wine goes up or left, docs/ go towards the end."""
+    return tie(dx, dy) and (dy > 0 if abs(dx) > abs(dy) else dx > 0)
 
 
 class Scene(Metafile):
@@ -54,9 +59,9 @@ class Scene(Metafile):
         self.move_to(*self.position)
 
     def draw(self, x, y):
-        """A line from the position, left out where it has a tie or the numbers do not fit."""
+        """A line from the position, left out where ties go apart or the numbers do not fit."""
         here = self.to_device(*self.position)
-        if not tie(x - here[0], y - here[1]):
+        if not tie_apart(x - here[0], y - here[1]):
             self.draw_any(x, y)
 
     def draw_any(self, x, y):
@@ -183,6 +188,31 @@ def edge_copy_file(r):
         m.brush(slot, slot)
         for _ in range(12):
             copy_apart(m, r, r.randrange(256), 100)
+    return m
+
+
+def overlap_copy_file(r, code):
+    """One code with both brushes: copies over themselves, by little or by more."""
+    m = Scene()
+    m.scatter(r)
+    for slot in (0, 1):
+        m.brush(slot, slot)
+        for x in range(0, WIDTH, 192):
+            for y in range(0, HEIGHT, 100):
+                w, h = r.randrange(40, 150), r.randrange(40, 90)
+                near = r.choice((3, 16, 40))
+                m.copy(x + r.randrange(-near, near + 1), y + r.randrange(-near, near + 1), w, h, x, y, code)
+    return m
+
+
+def outside_copy_file(r):
+    """Sources partly or wholly outside the picture, where S is 0."""
+    m = Scene()
+    m.scatter(r)
+    for slot in (0, 1):
+        m.brush(slot, slot)
+        for _ in range(12):
+            m.copy(*point(r, 40), r.randrange(0, 150), r.randrange(0, 100), *point(r, 150), r.randrange(256))
     return m
 
 
@@ -347,24 +377,23 @@ def mixed_file(r, colours, copies):
 # --- files with one departure each ----------------------------------------------------------------------
 
 def overlap_file(dx, dy, code=0xCC):
-    """A field of letters' size with blocks, copied over itself by (dx, dy)."""
+    """A line of writing, copied over itself by (dx, dy)."""
     m = Scene()
     m.paint(0, 0, WIDTH, HEIGHT, 0xFF)
     m.brush(0, 0)
-    for i in range(0, 10):
-        m.paint(44 + 9 * i, 34 + 4 * i, 5, 50 - 4 * i, 0xF0)
-    m.paint(40, 30, 100, 2, 0xF0)
-    m.copy(40 + dx, 30 + dy, 100, 60, 40, 30, code)
+    text(m, 'PAY 42.00', 42, 34, 2)
+    m.copy(41 + dx, 30 + dy, 110, 22, 41, 30, code)
     return m
 
 
-def tie_file(r):
+def tie_file(r, apart, spread=0):
     m = Scene()
     m.pen(0, 1)
+    m.rop2(7)
     for _ in range(40):
         while True:
-            (x0, y0), (x1, y1) = point(r, 0), point(r, 0)
-            if tie(x1 - x0, y1 - y0):
+            (x0, y0), (x1, y1) = point(r, spread), point(r, spread)
+            if tie(x1 - x0, y1 - y0) and tie_apart(x1 - x0, y1 - y0) == apart:
                 break
         m.move(x0, y0)
         m.draw_any(x1, y1)
@@ -413,8 +442,14 @@ def all_files(seed):
         yield same('copy', '%02X' % code, 'records', copy_file(rand('copy', code), code))
     for i in range(40):
         yield same('edge-copy', i, 'records', edge_copy_file(rand('edge-copy', i)))
+    for code in range(256):
+        yield same('overlap-copy', '%02X' % code, 'through', overlap_copy_file(rand('overlap-copy', code), code))
+    for i in range(40):
+        yield same('outside-copy', i, 'through', outside_copy_file(rand('outside-copy', i)))
     for i, spread in enumerate([0] * 20 + [100] * 20 + [3000] * 10 + [30000] * 10):
         yield same('line', '%d-%d' % (spread, i), 'whole', line_file(rand('line', i), spread))
+    for i, spread in enumerate([0] * 5 + [3000] * 5):
+        yield same('tie', '%d-%d' % (spread, i), 'whole', tie_file(rand('tie', i), False, spread))
     for mode in range(1, 17):
         for colour in (0, 1):
             yield same('mode', '%d-%d' % (mode, colour), 'whole', mode_file(rand('mode', mode, colour), mode, colour))
@@ -431,18 +466,17 @@ def all_files(seed):
         for i in range(60):
             colours, how = ((0, 1), 'whole') if i % 2 == 0 else (many, 'records')
             yield same(group, i, how, make(rand(group, i), colours, i % 2))
-    for dx in (-9, 0, 9):
-        for dy in (-5, 0, 5):
-            if dx or dy:
-                yield departs('overlap', '%+d%+d' % (dx, dy), 'records', overlap_file(dx, dy))
-    for code in (0x33, 0x66, 0x88, 0xC0, 0xEE):
-        yield departs('overlap', 'code-%02X' % code, 'records', overlap_file(9, 5, code))
+    for dx, dy in ((0, 0), (8, 0), (-8, 0), (0, 4), (0, -4), (5, 3), (8, 4)):
+        yield departs('overlap', 'CC%+d%+d' % (dx, dy), 'records', overlap_file(dx, dy))
+    for code in (0x33, 0x66, 0x88, 0xC0, 0xE2, 0xEE):
+        for dx, dy in ((0, 0), (5, 3)):
+            yield departs('overlap', '%02X%+d%+d' % (code, dx, dy), 'records', overlap_file(dx, dy, code))
     for style in (0, 4):
         for colour, back in ((0, 1), (1, 0)):
             yield departs('hatch', '%d-%d-%d' % (style, colour, back), 'whole',
                           hatch_file(rand('hatch', style, colour), style, colour, back))
     for i in range(4):
-        yield departs('tie', i, 'whole', tie_file(rand('tie', i)))
+        yield departs('tie', 'apart-%d' % i, 'whole', tie_file(rand('tie-apart', i), True))
     for dx, dy in ((-40, -30), (526, 360), (-500, 0)):
         yield departs('outside', '%+d%+d' % (dx, dy), 'records', outside_file(dx, dy))
     yield departs('clip', 'turned', 'whole', turned_clip_file())
