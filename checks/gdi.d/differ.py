@@ -38,8 +38,9 @@ def main():
             print('same     %-14s %3d files, %d differ' % (group, len(files), sum(d != 0 for _, d in files)))
     for (kind, group), files in groups.items():
         if kind == 'departs':
-            print('departs  %-14s %3d files, %d differ: %s' % (
-                group, len(files), sum(d != 0 for _, d in files), ', '.join('%s %d' % (n[len(group) + 1:], d) for n, d in files)))
+            counts = [d for _, d in files]
+            print('departs  %-14s %3d files, %d differ, in %d to %d cells' % (
+                group, len(files), sum(d != 0 for d in counts), min(counts), max(counts)))
     for text in wrong:
         print('failed   ' + text)
     print('%d passed, %d failed' % (passed - len(wrong), len(wrong)))

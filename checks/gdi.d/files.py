@@ -117,6 +117,14 @@ def some_lines(m, r, count, spread=0):
             m.draw(*point(r, spread))
 
 
+def far_lines(m, r, count, spread):
+    """Lines that begin far away, pass near a cell of the picture, and end beyond it."""
+    for _ in range(count):
+        (x, y), (a, b), t = point(r, 0), point(r, spread), r.random()
+        m.move(a, b)
+        m.draw(x + round((x - a) * t), y + round((y - b) * t))
+
+
 def some_paints(m, r, count, codes=PAINTS, spread=30):
     for _ in range(count):
         m.paint(*point(r, spread), r.randrange(0, 130), r.randrange(0, 110), r.choice(codes))
@@ -222,6 +230,7 @@ def line_file(r, spread):
     m.pen(0, 1, width=1)
     m.rop2(7)
     some_lines(m, r, 60, spread)
+    far_lines(m, r, 60 if spread > 100 else 0, spread)
     return m
 
 
@@ -287,13 +296,13 @@ def hatch_file(r, style, colour, back):
     return m
 
 
-def hatch_copy_file(r, style, colour, back):
+def hatch_copy_file(r, style, colour, back, step=4):
     m = Scene()
     m.scatter(r)
     m.back_colour(back)
     m.brush(0, colour, 2, style)
     for _ in range(24):
-        copy_apart(m, r, r.randrange(256), 20, 4)
+        copy_apart(m, r, r.randrange(256), 20, step)
     return m
 
 
@@ -376,13 +385,14 @@ def mixed_file(r, colours, copies):
 
 # --- files with one departure each ----------------------------------------------------------------------
 
-def overlap_file(dx, dy, code=0xCC):
-    """A line of writing, copied over itself by (dx, dy)."""
+def writing_file(*distance):
+    """A line of writing, and if a distance (dx, dy) is given the line copied over itself."""
     m = Scene()
     m.paint(0, 0, WIDTH, HEIGHT, 0xFF)
     m.brush(0, 0)
     text(m, 'PAY 42.00', 42, 34, 2)
-    m.copy(41 + dx, 30 + dy, 110, 22, 41, 30, code)
+    if distance:
+        m.copy(41 + distance[0], 30 + distance[1], 110, 22, 41, 30, 0xCC)
     return m
 
 
@@ -417,6 +427,7 @@ def turned_clip_file():
 
 
 def bit_blt_file(r):
+    """A copy in a file that PlayMetaFile plays."""
     m = Scene()
     m.scatter(r)
     copy_apart(m, r, 0xCC)
@@ -466,11 +477,13 @@ def all_files(seed):
         for i in range(60):
             colours, how = ((0, 1), 'whole') if i % 2 == 0 else (many, 'records')
             yield same(group, i, how, make(rand(group, i), colours, i % 2))
-    for dx, dy in ((0, 0), (8, 0), (-8, 0), (0, 4), (0, -4), (5, 3), (8, 4)):
-        yield departs('overlap', 'CC%+d%+d' % (dx, dy), 'records', overlap_file(dx, dy))
-    for code in (0x33, 0x66, 0x88, 0xC0, 0xE2, 0xEE):
-        for dx, dy in ((0, 0), (5, 3)):
-            yield departs('overlap', '%02X%+d%+d' % (code, dx, dy), 'records', overlap_file(dx, dy, code))
+    yield same('writing', 'before', 'whole', writing_file())
+    for dx, dy in ((8, 0), (8, 4), (16, 0)):
+        yield departs('writing', '%+d%+d' % (dx, dy), 'records', writing_file(dx, dy))
+    for code in range(256):
+        yield departs('overlap', '%02X' % code, 'records', overlap_copy_file(rand('overlap-copy', code), code))
+    for style in ALIKE:
+        yield departs('hatch-copy', style, 'records', hatch_copy_file(rand('hatch-copy', style), style, 0, 1, 1))
     for style in (0, 4):
         for colour, back in ((0, 1), (1, 0)):
             yield departs('hatch', '%d-%d-%d' % (style, colour, back), 'whole',
