@@ -418,10 +418,10 @@ def outside_file(dx, dy):
     return m
 
 
-def turned_clip_file():
-    """Left behind right: no cell by docs/, the rectangle between the two in GDI."""
+def turned_clip_file(*rectangle):
+    """Left behind right, or top below bottom: no cell by docs/, the rectangle between the two in GDI."""
     m = Scene()
-    m.clip(300, 100, 200, 200)
+    m.clip(*rectangle)
     m.paint(0, 0, WIDTH, HEIGHT, 0xFF)
     return m
 
@@ -492,7 +492,8 @@ def all_files(seed):
         yield departs('tie', 'apart-%d' % i, 'whole', tie_file(rand('tie-apart', i), True))
     for dx, dy in ((-40, -30), (526, 360), (-500, 0)):
         yield departs('outside', '%+d%+d' % (dx, dy), 'records', outside_file(dx, dy))
-    yield departs('clip', 'turned', 'whole', turned_clip_file())
+    yield departs('clip', 'columns', 'whole', turned_clip_file(300, 100, 200, 200))
+    yield departs('clip', 'rows', 'whole', turned_clip_file(200, 200, 300, 100))
     for i in range(2):
         yield departs('bitblt-record', i, 'whole', bit_blt_file(rand('bitblt', i)))
 

@@ -14,7 +14,7 @@
    and then does its operation from there: source and target never overlap, and outside the picture the source is 0.
 
    GDI starts with a black pen, a white brush, white as back colour, opaque background and R2_COPYPEN. The back colour
-   is set to palette entry 1, also white: Wine compares it with a hatched brush's colour by their values. */
+   is set to palette entry 1, also white: beside RGB white, Wine draws a hatch of palette entry 1 in two colours. */
 #include <windows.h>
 #include <stdio.h>
 #include <stdlib.h>
