@@ -33,7 +33,7 @@ cond-so b n w e h = h ∙ ap (λ t. cond t w 0) e
 
 -- a checked file was played on a memory that fits
 pub onto-played : (shows : List ℕ → Meaning) (spare : List ℕ → ℕ → ℕ) (fit : Result (Unit {0}) Refusal) (u : Unit {0}) (file m m′ : List ℕ) (r : Report) (c : Checked)
-  → Ok u ≡ fit → Accepted file c → Onto shows spare (c .bytes .now) (c .first) (c .objects) m r m′ → Played shows spare fit file m r m′
+    → Ok u ≡ fit → Accepted file c → Onto shows spare (c .bytes .now) (c .first) (c .objects) m r m′ → Played shows spare fit file m r m′
 onto-played shows spare fit u file m m′ r c e a o = subst (λ f. Played shows spare f file m r m′) e (inr (c, a, o))
 
 module _ {S : Type 0} (shows : ℕ → ℕ → List ℕ → Meaning) (spare : ℕ → ℕ → List ℕ → ℕ → ℕ) (wide high : S → ℕ) (bytes : S → List ℕ) (lender : S → GName) where
@@ -42,7 +42,7 @@ module _ {S : Type 0} (shows : ℕ → ℕ → List ℕ → Meaning) (spare : �
 
   -- the same of any raster
   pub raster-onto : (w h : ℕ) (p q : S) (m file : List ℕ) (place slots : ℕ) (r : Report) → wide p ≡ w → high p ≡ h → bytes p ≡ m
-    → Reported (λ s. shows (wide s) (high s) (bytes s)) (λ _. nothing) rest-of file place slots p r q → Onto (shows w h) (spare w h) file place slots m r (bytes q)
+      → Reported (λ s. shows (wide s) (high s) (bytes s)) (λ _. nothing) rest-of file place slots p r q → Onto (shows w h) (spare w h) file place slots m r (bytes q)
   raster-onto w h p q m file place slots r ew eh em d =
       let out = d .listened .out in
       let rest = out .still in
@@ -55,7 +55,7 @@ module _ {S : Type 0} (shows : ℕ → ℕ → List ℕ → Meaning) (spare : �
         steps = d .listened .steps;
         cells = out .cells;
         plays = subst (λ s. Plays (λ w. w) file (begun place slots) (shows w h m) (d .listened .steps) (d .end) s (out .cells)) to
-          (subst (λ s. Plays (λ w. w) file (begun place slots) s (d .listened .steps) (d .end) (shows (wide q) (high q) (bytes q)) (out .cells)) from (out .plays));
+            (subst (λ s. Plays (λ w. w) file (begun place slots) s (d .listened .steps) (d .end) (shows (wide q) (high q) (bytes q)) (out .cells)) from (out .plays));
         stopped = out .stopped;
         report = d .report ∙ ap (λ a. report-of a (d .heard .first) (d .end .counts)) (d .listened .last) ∙ ap (λ f. report-of (out .stopped .last .answer) f (d .end .counts)) (d .listened .first);
         bytes = ap (λ u. u .bytes) rest ∙ ap length em;

@@ -91,7 +91,13 @@ pub extern "C" fn dierwolp_check(file: &[u8], report: &mut Report) -> u32
 
 // Plays a file on a packed picture: 0 where it ended, or the number of what kept it from playing or stopped it.
 #[unsafe(no_mangle)]
-pub extern "C" fn dierwolp_play_packed(file: &[u8], memory: &mut [u8], width: u32, height: u32, report: &mut Report) -> u32
+pub extern "C" fn dierwolp_play_packed(
+    file: &[u8],
+    memory: &mut [u8],
+    width: u32,
+    height: u32,
+    report: &mut Report,
+) -> u32
     ensures played { λ _. ⌜ Played (packed width height) (packed-spare width height) (fitting width height (height * stride width) (length (now (memory .entry)))) (now (file .entry)) (now (memory .entry)) (now (report .exit)) (now (memory .exit)) ⌝ }
     ensures number { λ r. ⌜ r ≡ now (report .exit) .stop .number ⌝ }
 {
@@ -116,7 +122,13 @@ fn play_packed(file: &[u8], memory: &mut [u8], width: u32, height: u32) -> Repor
 
 // Plays a file on a picture of one byte a cell: 0 where it ended, or the number of what kept it from playing or stopped it.
 #[unsafe(no_mangle)]
-pub extern "C" fn dierwolp_play_bytes(file: &[u8], memory: &mut [u8], width: u32, height: u32, report: &mut Report) -> u32
+pub extern "C" fn dierwolp_play_bytes(
+    file: &[u8],
+    memory: &mut [u8],
+    width: u32,
+    height: u32,
+    report: &mut Report,
+) -> u32
     ensures played { λ _. ⌜ Played (bytewise width height) (bytes-spare width height) (fitting width height (height * width) (length (now (memory .entry)))) (now (file .entry)) (now (memory .entry)) (now (report .exit)) (now (memory .exit)) ⌝ }
     ensures number { λ r. ⌜ r ≡ now (report .exit) .stop .number ⌝ }
 {
@@ -141,7 +153,13 @@ fn play_bytes(file: &[u8], memory: &mut [u8], width: u32, height: u32) -> Report
 
 // Plays a file on a picture of four planes: 0 where it ended, or the number of what kept it from playing or stopped it.
 #[unsafe(no_mangle)]
-pub extern "C" fn dierwolp_play_planes(file: &[u8], memory: &mut [u8], width: u32, height: u32, report: &mut Report) -> u32
+pub extern "C" fn dierwolp_play_planes(
+    file: &[u8],
+    memory: &mut [u8],
+    width: u32,
+    height: u32,
+    report: &mut Report,
+) -> u32
     ensures played { λ _. ⌜ Played (planar width height) (planes-spare width height) (fitting width height (4 * (height * stride width)) (length (now (memory .entry)))) (now (file .entry)) (now (memory .entry)) (now (report .exit)) (now (memory .exit)) ⌝ }
     ensures number { λ r. ⌜ r ≡ now (report .exit) .stop .number ⌝ }
 {

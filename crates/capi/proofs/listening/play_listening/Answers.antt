@@ -41,17 +41,18 @@ records-less g c =
     let d = c .step-answer .ensures .stepped in
     let file = c .args .run .now .bytes .now in
     let m : (c .records .run .progress .place + 6 ≤ c .step-answer .last .self .progress .place) × (c .step-answer .last .self .progress .place ≤ length file)
-          = moves (λ w. w) file (c .records .run .progress) (c .step-answer .result) (c .step-answer .last .self .progress) (d .0)
-            (subst (λ b. Steps (λ w. w) b (c .records .run .progress) (c .step-answer .result) (c .step-answer .last .self .progress) (d .0)) (i .2) (d .1)) (sym (c .if-is-final .ensures tt)) in
+    = moves (λ w. w) file (c .records .run .progress) (c .step-answer .result) (c .step-answer .last .self .progress) (d .0)
+    (subst (λ b. Steps (λ w. w) b (c .records .run .progress) (c .step-answer .result) (c .step-answer .last .self .progress) (d .0)) (i .2) (d .1)) (sym (c .if-is-final .ensures tt)) in
     omega (arith, m .0, m .1)
 
 pub records-again : need.records-again
 records-again g c =
     let i = c .records .inv in
     let d = c .step-answer .ensures .stepped in
-    let here : Step = record { place = c .records .run .progress .place; answer = c .step-answer .result } in
-    (i .0 ++ (here ∷ []),
-     going-next _ _ _ _ _ _ _ _ _ _ _ _ (i .0 ++ (here ∷ [])) _ (i .1) (i .2) d refl,
-     c .step-answer .ensures .bytes ∙ i .2,
-     ongoing-push (i .0) here (i .3) (sym (c .if-is-final .ensures tt)),
-     c .noted-first .ensures ∙ ap (λ f. earlier f (record-fault (c .step-answer .result))) (i .4) ∙ sym (first-push (i .0) here))
+    let here : Step = record { place = c .records .run .progress .place; answer = c .step-answer .result } in (
+      i .0 ++ (here ∷ []),
+      going-next _ _ _ _ _ _ _ _ _ _ _ _ (i .0 ++ (here ∷ [])) _ (i .1) (i .2) d refl,
+      c .step-answer .ensures .bytes ∙ i .2,
+      ongoing-push (i .0) here (i .3) (sym (c .if-is-final .ensures tt)),
+      c .noted-first .ensures ∙ ap (λ f. earlier f (record-fault (c .step-answer .result))) (i .4) ∙ sym (first-push (i .0) here),
+    )
