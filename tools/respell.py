@@ -13,7 +13,8 @@ import re
 import sys
 
 ENDS = r"[^\s(){}.,;:\[\]\"]"
-DEFINED = re.compile(r"^(?:(?:abbrev|unfoldable|pub|data|record) )*(" + ENDS + r"+) :[ \n]", re.M)
+DEFINED = re.compile(r"^ *(?:(?:abbrev|unfoldable|pub|data|record) )*(" + ENDS + r"+) :[ \n]", re.M)
+RECORD = re.compile(r"^(?:pub )?record [^\n]* where\n((?:(?:  [^\n]*)?\n)+)", re.M)
 MADE = re.compile(r"^(?:(?:abbrev|unfoldable|pub) )*(" + ENDS + r"+) : goal\.", re.M)
 
 # Words of the library that a dash may stand beside.
@@ -64,6 +65,15 @@ def spelled(name, names):
     return whole
 
 
+def fields(root):
+    """The fields of the records of specs/, which stand behind a dot too."""
+    found = set()
+    for p, text in texts(root, ".antt"):
+        for block in RECORD.findall(text):
+            found |= {n for n in re.findall(r"^ +(?:pub )?(" + ENDS + r"+) : ", block, re.M) if "-" in n}
+    return found
+
+
 def table(root):
     defined, made = set(), set()
     for p, text in texts(root, ".antt"):
@@ -89,6 +99,8 @@ def main():
     turned = re.compile(
         r"(?<![\w.'-])(" + "|".join(re.escape(n) for n in sorted(rows, key=len, reverse=True)) + r")(?![\w'-])"
     )
+    fielded = {n: spelled(n, set()) for n in fields(root)}
+    projected = re.compile(r"(?<![\w'-])(" + "|".join(re.escape(n) for n in sorted(fielded, key=len, reverse=True) or ["$^"]) + r")(?![\w'-])")
     tokens = re.compile(r"[^\s(){}.,;:\[\]\"]+")
     held = {}
     for p, text in texts(root, (".antt", ".rt")):
@@ -105,6 +117,7 @@ def main():
         # A name turns in the files that define or import it: elsewhere it is a local's.
         mine = set(re.findall(ENDS + "+", "\n".join(re.findall(r"^(?:ghost )?use [^\n]*", text, re.M)))) | set(DEFINED.findall(text))
         new = turned.sub(lambda m: rows[m[1]] if m[1] in mine or p.endswith(".edit") else m[1], text)
+        new = projected.sub(lambda m: fielded[m[1]], new)
         if new != text:
             with open(p, "w", encoding="utf-8") as f:
                 f.write(new)

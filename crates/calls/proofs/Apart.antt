@@ -29,8 +29,8 @@ use Rattle.calls.specs.declared.call.MeterCall.{MeterCall}
 use Rattle.calls.specs.declared.call.MeterCall.TheVariants as act
 use Rattle.calls.specs.declared.call.Reply.{Reply}
 use Rattle.calls.proofs.Draughting.{same_pencil}
-use Rattle.calls.proofs.Objects.{put-seen, put-answer-seen, removed_seen, remove-answer-seen, taken-seen, there-seen}
-use Rattle.calls.proofs.Shadows.{ShadowTask, refused, drawn, Shadow, still, same, brush-bit, line-shadow, paint-shadow, copy-shadow, plane-after, plane-aimed}
+use Rattle.calls.proofs.Objects.{put_seen, put_answer-seen, removed_seen, remove_answer-seen, taken-seen, there-seen}
+use Rattle.calls.proofs.Shadows.{ShadowTask, refused, drawn, Shadow, still, same, brush_bit, line_shadow, paint_shadow, copy_shadow, plane-after, plane-aimed}
 
 module _ (k : ℕ) where
   -- an outcome and what it is on plane k
@@ -61,22 +61,22 @@ module _ (k : ℕ) where
   plays-seen (of.SetWindowOrg x y) c = changed-seen _ _ refl
   plays-seen (of.SetViewportOrg x y) c = changed-seen _ _ refl
   plays-seen (of.MoveTo x y) c = changed-seen _ _ refl
-  plays-seen (of.LineTo x y) c = drawing-seen _ _ (line-shadow k c.pencil (device c.origins c.position) (device c.origins (record { x = x; y = y })))
+  plays-seen (of.LineTo x y) c = drawing-seen _ _ (line_shadow k c.pencil (device c.origins c.position) (device c.origins (record { x = x; y = y })))
   plays-seen (of.PatBlt code x y w h) c =
-      drawing-seen _ _ (paint-shadow k c.pencil (device_area c.origins (record { x = x; y = y }) w h) code (brush_shade c.pencil) (brush_shade (seen_pencil (bit k) c.pencil)) (brush-bit k c.pencil))
+      drawing-seen _ _ (paint_shadow k c.pencil (device_area c.origins (record { x = x; y = y }) w h) code (brush_shade c.pencil) (brush_shade (seen_pencil (bit k) c.pencil)) (brush_bit k c.pencil))
   plays-seen (of.BitBlt code x y w h sx sy) c =
-      drawing-seen _ _ (copy-shadow k c.pencil (device_area c.origins (record { x = x; y = y }) w h) (device c.origins (record { x = sx; y = sy })) code (brush_shade c.pencil) (brush_shade (seen_pencil (bit k) c.pencil)) (brush-bit k c.pencil))
+      drawing-seen _ _ (copy_shadow k c.pencil (device_area c.origins (record { x = x; y = y }) w h) (device c.origins (record { x = sx; y = sy })) code (brush_shade c.pencil) (brush_shade (seen_pencil (bit k) c.pencil)) (brush_bit k c.pencil))
   plays-seen (of.IntersectClipRect l t r b) c = changed-seen _ _ refl
   plays-seen (of.SetRop2 m) c = changed-seen _ _ refl
   plays-seen (of.SetBkColor w) c = changed-seen _ _ refl
   plays-seen (of.CreateBrushIndirect b) c =
-      allowed-seen _ _ _ _ c (put-answer-seen (bit k) c.objects) (λ i. record { position = c.position; origins = c.origins; pencil = seen_pencil (bit k) c.pencil; objects = put-seen (bit k) (slot.Brush b) c.objects i })
+      allowed-seen _ _ _ _ c (put_answer-seen (bit k) c.objects) (λ i. record { position = c.position; origins = c.origins; pencil = seen_pencil (bit k) c.pencil; objects = put_seen (bit k) (slot.Brush b) c.objects i })
   plays-seen (of.CreatePenIndirect p) c =
-      allowed-seen _ _ _ _ c (put-answer-seen (bit k) c.objects) (λ i. record { position = c.position; origins = c.origins; pencil = seen_pencil (bit k) c.pencil; objects = put-seen (bit k) (slot.Pen p) c.objects i })
+      allowed-seen _ _ _ _ c (put_answer-seen (bit k) c.objects) (λ i. record { position = c.position; origins = c.origins; pencil = seen_pencil (bit k) c.pencil; objects = put_seen (bit k) (slot.Pen p) c.objects i })
   plays-seen (of.SelectObject j) c =
       allowed-seen _ _ _ _ c (there-seen (bit k) j c.objects) (λ i. record { position = c.position; origins = c.origins; pencil = taken-seen (bit k) j c.objects c.pencil i; objects = seen_objects (bit k) c.objects })
   plays-seen (of.DeleteObject j) c =
-      allowed-seen _ _ _ _ c (remove-answer-seen (bit k) j c.objects) (λ i. record { position = c.position; origins = c.origins; pencil = seen_pencil (bit k) c.pencil; objects = removed_seen (bit k) j c.objects i })
+      allowed-seen _ _ _ _ c (remove_answer-seen (bit k) j c.objects) (λ i. record { position = c.position; origins = c.origins; pencil = seen_pencil (bit k) c.pencil; objects = removed_seen (bit k) j c.objects i })
   plays-seen (of.Unlisted f rest) c = record { answer = refl; context = refl; mark = still }
 
   past-seen : (e : ℕ) (r : Result Answer Refusal) (t : Progress) → past e r (seen_progress (bit k) t) ≡ seen_progress (bit k) (past e r t)
@@ -115,21 +115,21 @@ module _ (k : ℕ) where
 
   module _ {I : Type 0} (shade : I → ℤ → ℤ → ℕ) (file : List ℕ) where
     -- a call on plane k
-    make-seen : (c : Call I) (r : Reply) (t t' : Progress) (μ : Mark) → Makes (λ w. w) shade file t c r t' μ
+    make_seen : (c : Call I) (r : Reply) (t t' : Progress) (μ : Mark) → Makes (λ w. w) shade file t c r t' μ
         → (μ' : Mark) × Makes (bit k) shade file (seen_progress (bit k) t) c r (seen_progress (bit k) t') μ' × Shadow k μ μ'
-    make-seen call.Step r t t' μ (a, e, s) = let d = step-seen file t a t' μ s in (d.0, (a, e, d.1), d.2)
-    make-seen (call.Line p from to) r t t' μ d =
-        draughts-seen (subst (λ q. ShadowTask k (line_task q from to) (line_task (seen_pencil (bit k) p) from to)) (same_pencil p) (line-shadow k p from to)) r t t' μ d
-    make-seen (call.Paint p area code ink) r t t' μ d =
-        draughts-seen (subst (λ q. ShadowTask k (paint_task q area code (shade ink)) (paint_task (seen_pencil (bit k) p) area code (λ x y. bit k (shade ink x y)))) (same_pencil p) (paint-shadow k p area code (shade ink) (λ x y. bit k (shade ink x y)) (λ x y. refl))) r t t' μ d
-    make-seen (call.Copy p area source code ink) r t t' μ d =
-        draughts-seen (subst (λ q. ShadowTask k (copy_task q area source code (shade ink)) (copy_task (seen_pencil (bit k) p) area source code (λ x y. bit k (shade ink x y)))) (same_pencil p) (copy-shadow k p area source code (shade ink) (λ x y. bit k (shade ink x y)) (λ x y. refl))) r t t' μ d
+    make_seen call.Step r t t' μ (a, e, s) = let d = step-seen file t a t' μ s in (d.0, (a, e, d.1), d.2)
+    make_seen (call.Line p from to) r t t' μ d =
+        draughts-seen (subst (λ q. ShadowTask k (line_task q from to) (line_task (seen_pencil (bit k) p) from to)) (same_pencil p) (line_shadow k p from to)) r t t' μ d
+    make_seen (call.Paint p area code ink) r t t' μ d =
+        draughts-seen (subst (λ q. ShadowTask k (paint_task q area code (shade ink)) (paint_task (seen_pencil (bit k) p) area code (λ x y. bit k (shade ink x y)))) (same_pencil p) (paint_shadow k p area code (shade ink) (λ x y. bit k (shade ink x y)) (λ x y. refl))) r t t' μ d
+    make_seen (call.Copy p area source code ink) r t t' μ d =
+        draughts-seen (subst (λ q. ShadowTask k (copy_task q area source code (shade ink)) (copy_task (seen_pencil (bit k) p) area source code (λ x y. bit k (shade ink x y)))) (same_pencil p) (copy_shadow k p area source code (shade ink) (λ x y. bit k (shade ink x y)) (λ x y. refl))) r t t' μ d
 
-    abbrev pub seenStanding : Standing → Standing
-    seenStanding p = record { run = seen_progress (bit k) p.run; picture = plane k p.picture; reference = plane k p.reference; reached = p.reached }
+    abbrev pub seen_standing : Standing → Standing
+    seen_standing p = record { run = seen_progress (bit k) p.run; picture = plane k p.picture; reference = plane k p.reference; reached = p.reached }
 
     onward-seen : (p : Standing) (t : Progress) (μ μ' : Mark) → Shadow k μ μ' → k < p.picture.depth → p.picture.depth ≤ 16
-        → seenStanding (onward p t μ) ≡ onward (seenStanding p) (seen_progress (bit k) t) μ'
+        → seen_standing (onward p t μ) ≡ onward (seen_standing p) (seen_progress (bit k) t) μ'
     onward-seen p t μ μ' s h d = λ i. record {
       run = seen_progress (bit k) t;
       picture = sym (plane-after k s p.picture h d) i;
@@ -142,17 +142,17 @@ module _ (k : ℕ) where
     depth-after (marked region new) m = refl
 
     -- one call or clearing on plane k, and the depth stays
-    act-seen : (a : MeterCall I) (p q : Standing) (r : Reply) → k < p.picture.depth → p.picture.depth ≤ 16 → Acts (λ w. w) shade file p a r q
-        → Acts (bit k) shade file (seenStanding p) a r (seenStanding q) × (q.picture.depth ≡ p.picture.depth)
-    act-seen (act.Call c) p q r h d (t, μ, m, e) =
-        let s = make-seen c r p.run t μ m in
-        ((seen_progress (bit k) t, s.0, s.1, ap seenStanding e ∙ onward-seen p t μ s.0 s.2 h d), ap (λ (q : Standing). q.picture.depth) e ∙ depth-after μ p.picture)
-    act-seen act.Clear p q r h d (er, e) = ((er, ap seenStanding e), ap (λ (q : Standing). q.picture.depth) e)
+    act_seen : (a : MeterCall I) (p q : Standing) (r : Reply) → k < p.picture.depth → p.picture.depth ≤ 16 → Acts (λ w. w) shade file p a r q
+        → Acts (bit k) shade file (seen_standing p) a r (seen_standing q) × (q.picture.depth ≡ p.picture.depth)
+    act_seen (act.Call c) p q r h d (t, μ, m, e) =
+        let s = make_seen c r p.run t μ m in
+        ((seen_progress (bit k) t, s.0, s.1, ap seen_standing e ∙ onward-seen p t μ s.0 s.2 h d), ap (λ (q : Standing). q.picture.depth) e ∙ depth-after μ p.picture)
+    act_seen act.Clear p q r h d (er, e) = ((er, ap seen_standing e), ap (λ (q : Standing). q.picture.depth) e)
 
     -- the whole list
     pub planes-apart : {p q : Standing} {acts : List (MeterCall I)} {rs : List Reply} → k < p.picture.depth → p.picture.depth ≤ 16
-        → Machine (λ w. w) shade file p acts rs q → Machine (bit k) shade file (seenStanding p) acts rs (seenStanding q)
+        → Machine (λ w. w) shade file p acts rs q → Machine (bit k) shade file (seen_standing p) acts rs (seen_standing q)
     planes-apart h d none = none
     planes-apart h d (next {p} {q} {s} {a} {acts} {r} {rs} x m) =
-        let y = act-seen a p q r h d x in
+        let y = act_seen a p q r h d x in
         next y.0 (planes-apart (omega (arith, y.1)) (omega (arith, y.1)) m)

@@ -11,7 +11,7 @@ use Rattle.layers.specs.declared.meter.Meter.{Meter}
 use Rattle.playback.specs.Records.{Mark}
 use Rattle.player.specs.Playing.{after, aimed}
 use Rattle.player.specs.declared.progress.Progress.{Progress}
-use Rattle.player.proofs.Wholes.{marks-picture, marks-kept, marks-rest}
+use Rattle.player.proofs.Wholes.{marks_picture, marks_kept, marks_rest}
 use Rattle.calls.specs.Machine.{Standing, begun, cleared, Makes, Machine, none}
 use Rattle.calls.specs.Metering.{Acted}
 use Rattle.calls.specs.Promise.{Bounding, Metered}
@@ -19,7 +19,7 @@ use Rattle.calls.specs.declared.call.Call.{Call}
 use Rattle.calls.specs.declared.call.MeterCall.{MeterCall}
 use Rattle.calls.specs.declared.call.MeterCall.TheVariants as act
 use Rattle.calls.specs.declared.call.Reply.{Reply}
-use Rattle.calls.proofs.Along.{machine-push, leads}
+use Rattle.calls.proofs.Along.{machine_push, leads}
 
 first_cell : (l t r b : ℤ) → (solid (Some (record { left = l; top = t; right = r; bottom = b })) ≡ true) → holds (record { left = l; top = t; right = r; bottom = b }) l t ≡ true
 first_cell l t r b e = grind (arith, ints)
@@ -88,23 +88,23 @@ module _ {I : Type 0} (shade : I → ℤ → ℤ → ℕ) (file : List ℕ) {S R
         let k = d.0 in
         let n = means m₁.below in
         let cells : ℤ → ℤ → Bool = λ x y. l.reached x y || aimed k n x y in
-        let picture = marks-picture (λ (m : Meter S). means m.below) (λ (m : Meter S). bounds m.kept) (λ (m : Meter S). rest m.below) k m₁ m₂ d.2 in
-        let kept = marks-kept (λ (m : Meter S). means m.below) (λ (m : Meter S). bounds m.kept) (λ (m : Meter S). rest m.below) k m₁ m₂ d.2 in
+        let picture = marks_picture (λ (m : Meter S). means m.below) (λ (m : Meter S). bounds m.kept) (λ (m : Meter S). rest m.below) k m₁ m₂ d.2 in
+        let kept = marks_kept (λ (m : Meter S). means m.below) (λ (m : Meter S). bounds m.kept) (λ (m : Meter S). rest m.below) k m₁ m₂ d.2 in
         let here : Standing = record { run = t₂; picture = after k n; reference = l.reference; reached = cells } in
         let one : Machine (λ w. w) shade file (begun t (means m.below) (held m.kept)) (acts ++ (act.Call c ∷ [])) (replies ++ (r ∷ [])) here
-        = machine-push (λ w. w) shade file (act.Call c) r here l.machine (t₂, k, d.1, refl) in
+        = machine_push (λ w. w) shade file (act.Call c) r here l.machine (t₂, k, d.1, refl) in
         record {
           reference = l.reference;
           reached = cells;
           machine = subst (λ p. Machine (λ w. w) shade file (begun t (means m.below) (held m.kept)) (acts ++ (act.Call c ∷ [])) (replies ++ (r ∷ [])) (record { run = t₂; picture = p; reference = l.reference; reached = cells })) picture one;
           bounding = grown_bounding l.reached (aimed k n) m₁.kept m₂.kept l.bounding (grown_of kept);
-          others = marks-rest (λ (m : Meter S). means m.below) (λ (m : Meter S). bounds m.kept) (λ (m : Meter S). rest m.below) k m₁ m₂ d.2 ∙ l.others;
+          others = marks_rest (λ (m : Meter S). means m.below) (λ (m : Meter S). bounds m.kept) (λ (m : Meter S). rest m.below) k m₁ m₂ d.2 ∙ l.others;
         }
     acted act.Clear l d =
         let n = means m₁.below in
         let here : Standing = record { run = t₁; picture = n; reference = n; reached = λ _ _. false } in
         let one : Machine (λ w. w) shade file (begun t (means m.below) (held m.kept)) (acts ++ (act.Clear ∷ [])) (replies ++ (r ∷ [])) here
-        = machine-push (λ w. w) shade file act.Clear r here l.machine (d.0, refl) in
+        = machine_push (λ w. w) shade file act.Clear r here l.machine (d.0, refl) in
         record {
           reference = n;
           reached = λ _ _. false;
@@ -122,9 +122,9 @@ module _ {I : Type 0} (shade : I → ℤ → ℤ → ℕ) (file : List ℕ) {S R
       subst (λ made. Measured made t m replies' t₂ m₂) (sym ea) (subst (λ rs. Measured (acts ++ (a ∷ [])) t m rs t₂ m₂) (sym er)
       (acted acts t t₁ t₂ m m₁ m₂ replies r a l (subst (λ b. Acted means rest shade b t₁ m₁ a r t₂ m₂) f d)))
 
-  pub measured-metered : (acts : List (MeterCall I)) (t : Progress) (m : Meter S) (replies : List Reply) (t' : Progress) (m' : Meter S) → (means m.below).depth ≤ 16
+  pub measured_metered : (acts : List (MeterCall I)) (t : Progress) (m : Meter S) (replies : List Reply) (t' : Progress) (m' : Meter S) → (means m.below).depth ≤ 16
       → Measured acts t m replies t' m' → Metered means rest shade file acts t m.below m.kept replies t' m'.below m'.kept
-  measured-metered acts t m replies t' m' d l =
+  measured_metered acts t m replies t' m' d l =
       let led = leads shade file t (means m.below) (held m.kept) (record { run = t'; picture = means m'.below; reference = l.reference; reached = l.reached }) d l.machine in
       record {
         reference = l.reference;

@@ -67,41 +67,41 @@ module _ (k : ℕ) where
   either true s r = s
   either false s r = r
 
-  pen-draws : (p : Pen) → draws (seen_pen (bit k) p) ≡ draws p
-  pen-draws (pen.Solid c) = refl
-  pen-draws pen.Null = refl
+  pen_draws : (p : Pen) → draws (seen_pen (bit k) p) ≡ draws p
+  pen_draws (pen.Solid c) = refl
+  pen_draws pen.Null = refl
 
-  pen-colour : (p : Pen) → colour (seen_pen (bit k) p) ≡ bit k (colour p)
-  pen-colour (pen.Solid c) = refl
-  pen-colour pen.Null = sym (zero_bit k)
+  pen_colour : (p : Pen) → colour (seen_pen (bit k) p) ≡ bit k (colour p)
+  pen_colour (pen.Solid c) = refl
+  pen_colour pen.Null = sym (zero_bit k)
 
   chosen : (b : Bool) (v w : ℕ) → cond b (bit k v) (bit k w) ≡ bit k (cond b v w)
   chosen true v w = refl
   chosen false v w = refl
 
-  ink-bit : (b : Brush) (back : ℕ) (x y : ℤ) → inked (brushed (seen_brush (bit k) b) (bit k back)) x y ≡ bit k (inked (brushed b back) x y)
-  ink-bit (brush.Solid c) back x y = refl
-  ink-bit (brush.Hatched s c) back x y = chosen (lined s (eighth x) (eighth y)) c back
+  ink_bit : (b : Brush) (back : ℕ) (x y : ℤ) → inked (brushed (seen_brush (bit k) b) (bit k back)) x y ≡ bit k (inked (brushed b back) x y)
+  ink_bit (brush.Solid c) back x y = refl
+  ink_bit (brush.Hatched s c) back x y = chosen (lined s (eighth x) (eighth y)) c back
 
   -- the words of a pencil's brush on plane k
-  pub brush-bit : (p : Pencil) (x y : ℤ) → brush_shade (seen_pencil (bit k) p) x y ≡ bit k (brush_shade p x y)
-  brush-bit p x y = ink-bit p.brush p.back x y
+  pub brush_bit : (p : Pencil) (x y : ℤ) → brush_shade (seen_pencil (bit k) p) x y ≡ bit k (brush_shade p x y)
+  brush_bit p x y = ink_bit p.brush p.back x y
 
-  pub line-shadow : (p : Pencil) (from to : Point) → ShadowTask (line_task p from to) (line_task (seen_pencil (bit k) p) from to)
-  line-shadow p from to = either (placed from && placed to)
-      (drawn (λ x y. ap (λ b. b && (traced from to (longer from to) x y && holds p.clip x y)) (pen-draws p.pen))
-      (λ m h s x y. mixed-bit (mode_number p.mode) (colour p.pen) (m.word x y) (colour (seen_pen (bit k) p.pen)) (omega arith) (pen-colour p.pen)))
+  pub line_shadow : (p : Pencil) (from to : Point) → ShadowTask (line_task p from to) (line_task (seen_pencil (bit k) p) from to)
+  line_shadow p from to = either (placed from && placed to)
+      (drawn (λ x y. ap (λ b. b && (traced from to (longer from to) x y && holds p.clip x y)) (pen_draws p.pen))
+      (λ m h s x y. mixed-bit (mode_number p.mode) (colour p.pen) (m.word x y) (colour (seen_pen (bit k) p.pen)) (omega arith) (pen_colour p.pen)))
       refused
 
-  pub paint-shadow : (p : Pencil) (area : Area) (code : ℕ) (shade shade' : ℤ → ℤ → ℕ) → ((x y : ℤ) → shade' x y ≡ bit k (shade x y)) →
+  pub paint_shadow : (p : Pencil) (area : Area) (code : ℕ) (shade shade' : ℤ → ℤ → ℕ) → ((x y : ℤ) → shade' x y ≡ bit k (shade x y)) →
       ShadowTask (paint_task p area code shade) (paint_task (seen_pencil (bit k) p) area code shade')
-  paint-shadow p area code shade shade' e = either (sourced code) refused (either (ranged area)
+  paint_shadow p area code shade shade' e = either (sourced code) refused (either (ranged area)
       (drawn (λ x y. refl) (λ m h s x y. combined-bit code (shade x y) 0 (m.word x y) (shade' x y) 0 (bit k (m.word x y)) (omega arith) (e x y) (sym (zero_bit k)) refl))
       refused)
 
-  pub copy-shadow : (p : Pencil) (area : Area) (source : Point) (code : ℕ) (shade shade' : ℤ → ℤ → ℕ) → ((x y : ℤ) → shade' x y ≡ bit k (shade x y)) →
+  pub copy_shadow : (p : Pencil) (area : Area) (source : Point) (code : ℕ) (shade shade' : ℤ → ℤ → ℕ) → ((x y : ℤ) → shade' x y ≡ bit k (shade x y)) →
       ShadowTask (copy_task p area source code shade) (copy_task (seen_pencil (bit k) p) area source code shade')
-  copy-shadow p area source code shade shade' e = either (ranged area && placed source)
+  copy_shadow p area source code shade shade' e = either (ranged area && placed source)
       (drawn (λ x y. refl)
       (λ m h s x y.
       let u = x +ℤ (source.x -ℤ area.x) in

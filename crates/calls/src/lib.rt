@@ -1,4 +1,6 @@
 // Any list of calls on any surface, and the promise that no bit plane touches another.
+#![tactic(auto)]
+
 mod call;
 mod making;
 mod metering;

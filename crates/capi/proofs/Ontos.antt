@@ -32,9 +32,9 @@ module _ {S : Type 0} (shows : ℕ → ℕ → List ℕ → Meaning) (spare : �
   rest_of s = record { width = wide s; height = high s; bytes = length (bytes s); lender = lender s; spare = spare (wide s) (high s) (bytes s) }
 
   -- the same of any raster
-  pub raster-onto : (w h : ℕ) (p q : S) (m file : List ℕ) (place slots : ℕ) (r : Report) → wide p ≡ w → high p ≡ h → bytes p ≡ m
+  pub raster_onto : (w h : ℕ) (p q : S) (m file : List ℕ) (place slots : ℕ) (r : Report) → wide p ≡ w → high p ≡ h → bytes p ≡ m
       → Reported (λ s. shows (wide s) (high s) (bytes s)) (λ _. nothing) rest_of file place slots p r q → Onto (shows w h) (spare w h) file place slots m r (bytes q)
-  raster-onto w h p q m file place slots r ew eh em d =
+  raster_onto w h p q m file place slots r ew eh em d =
       let out = d.listened.out in
       let rest = out.still in
       let qw : wide q ≡ w = ap (λ u. u.width) rest ∙ ew in
@@ -54,5 +54,5 @@ module _ {S : Type 0} (shows : ℕ → ℕ → List ℕ → Meaning) (spare : �
       }
 
   -- and its lender stays
-  pub raster-lender : (p q : S) (file : List ℕ) (place slots : ℕ) (r : Report) → Reported (λ s. shows (wide s) (high s) (bytes s)) (λ _. nothing) rest_of file place slots p r q → lender q ≡ lender p
-  raster-lender p q file place slots r d = ap (λ u. u.lender) d.listened.out.still
+  pub raster_lender : (p q : S) (file : List ℕ) (place slots : ℕ) (r : Report) → Reported (λ s. shows (wide s) (high s) (bytes s)) (λ _. nothing) rest_of file place slots p r q → lender q ≡ lender p
+  raster_lender p q file place slots r d = ap (λ u. u.lender) d.listened.out.still

@@ -1,4 +1,6 @@
 // The player for C: checking and playing a file on a picture in the caller's memory, and writing the picture out.
+#![tactic(auto)]
+
 mod exports;
 mod listening;
 mod report;

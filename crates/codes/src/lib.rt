@@ -1,4 +1,6 @@
 // The causes of refusal, and the words that ternary raster operations and line modes make bit by bit.
+#![tactic(auto)]
+
 mod mode;
 mod mux;
 mod operation;

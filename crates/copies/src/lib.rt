@@ -1,4 +1,6 @@
 // Copying within a picture on any surface, with any ink.
+#![tactic(auto)]
+
 mod copying;
 mod shift;
 

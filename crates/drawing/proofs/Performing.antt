@@ -15,5 +15,5 @@ module _ {S R : Type 0} (means : S → Meaning) (keeps : S → Keep) (rest : S �
   performed t region new s s' e d = subst (λ t. Performs means keeps rest t (Ok tt) s s') (sym e) (refl, d)
 
   -- the same with an equal task
-  pub performed-as : (t t' : Task) (r : Result (Unit {0}) Refusal) (s s' : S) → t ≡ t' → Performs means keeps rest t r s s' → Performs means keeps rest t' r s s'
-  performed-as t t' r s s' e = subst (λ t. Performs means keeps rest t r s s') e
+  pub performed_as : (t t' : Task) (r : Result (Unit {0}) Refusal) (s s' : S) → t ≡ t' → Performs means keeps rest t r s s' → Performs means keeps rest t' r s s'
+  performed_as t t' r s s' e = subst (λ t. Performs means keeps rest t r s s') e

@@ -31,7 +31,7 @@ fn breadth(area: Rect) -> u16
 // Gives the cells of a rectangle one word.
 fn fill_rect<S: Surface>(surface: &mut S, area: Rect, v: u16)
     requires { Across 65535 area }
-    ensures { Draws means keeps rest (holds area) (λ _ _ _. v) surface.old surface.new }
+    ensures { Draws S.means S.keeps S.rest (holds area) (λ _ _ _. v) surface.old surface.new }
 {
     let n = breadth(area);
     for y in area.top..area.bottom {
@@ -48,7 +48,7 @@ fn blend_row<S: Surface, P: Ink, Q: Ink>(
     pattern: &P,
     source: &Q,
 )
-    ensures { Draws means keeps rest (row area y) (blended code (P.Ink.shade pattern.now) (Q.Ink.shade source.now))
+    ensures { Draws S.means S.keeps S.rest (row area y) (blended code (P.Ink.shade pattern.now) (Q.Ink.shade source.now))
         surface.old surface.new }
 {
     for x in area.left..area.right {
@@ -71,7 +71,7 @@ pub(crate) fn blend_rect<S: Surface, P: Ink, Q: Ink>(
     source: &Q,
 )
     requires { Across 65535 area }
-    ensures { Draws means keeps rest (holds area) (blended code (P.Ink.shade pattern.now) (Q.Ink.shade source.now))
+    ensures { Draws S.means S.keeps S.rest (holds area) (blended code (P.Ink.shade pattern.now) (Q.Ink.shade source.now))
         surface.old surface.new }
 {
     if let Some(v) = uniform(code, pattern, source) {

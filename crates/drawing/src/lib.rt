@@ -1,4 +1,6 @@
 // Drawing on any surface: what the drawing calls come to, and painting.
+#![tactic(auto)]
+
 mod filling;
 mod painting;
 mod shape;

@@ -20,7 +20,7 @@ pub fn blend<S: Surface, P: Ink, Q: Ink>(
     pattern: &P,
     source: &Q,
 ) -> Result<(), Refusal>
-    ensures { Performs means keeps rest
+    ensures { Performs S.means S.keeps S.rest
         (blend_task pencil.now area code (P.Ink.shade pattern.now) (Q.Ink.shade source.now)) result
         surface.old surface.new }
 {
@@ -40,7 +40,7 @@ pub fn paint<S: Surface, I: Ink>(
     code: u8,
     ink: &I,
 ) -> Result<(), Refusal>
-    ensures { Performs means keeps rest (paint_task pencil.now area code (shade ink.now)) result
+    ensures { Performs S.means S.keeps S.rest (paint_task pencil.now area code (shade ink.now)) result
         surface.old surface.new }
 {
     if depends_on_source(code) {
@@ -58,7 +58,7 @@ pub fn paint_within<S: Surface, I: Ink>(
     code: u8,
     ink: &I,
 ) -> Result<(), Refusal>
-    ensures drawing { Performs means keeps rest
+    ensures drawing { Performs S.means S.keeps S.rest
         (paint_task (with_clip (overlap pencil.old.clip rect) pencil.old) area code (shade ink.now)) result
         surface.old surface.new }
     ensures pencil { pencil.new ≡ pencil.old }

@@ -1,4 +1,6 @@
 // Makes the calls of the worked examples, and prints what they gave.
+#![tactic(auto)]
+
 use examples::worked_examples;
 use std::io;
 

@@ -1,3 +1,5 @@
 // Worked examples of runs.
+#![tactic(auto)]
+
 #[cfg(test)]
 mod tests;

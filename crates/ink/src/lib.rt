@@ -1,4 +1,6 @@
 // Inks: a word for every cell.
+#![tactic(auto)]
+
 mod hatch;
 mod shade;
 

@@ -176,47 +176,47 @@ module _ (file : List ℕ) (p : ℕ) (l : Lies file p) where
   abbrev Tells : Outcome → Type 0
   Tells o = Settled o.context × Says file p (told p o.answer)
 
-  drawn-tells : Listed (function file p) → (b : Bool) (region : ℤ → ℤ → Bool) (new : Meaning → ℤ → ℤ → ℕ) (c before : DeviceContext) → b ≡ true → Settled c
+  drawn_tells : Listed (function file p) → (b : Bool) (region : ℤ → ℤ → Bool) (new : Meaning → ℤ → ℤ → ℕ) (c before : DeviceContext) → b ≡ true → Settled c
       → Tells (drawing (cond b (draw region new) (refuse refusal.Range)) c before)
-  drawn-tells k true region new c before e s = (s, (l, k))
-  drawn-tells k false region new c before e s = absurd (true≢false (sym e))
+  drawn_tells k true region new c before e s = (s, (l, k))
+  drawn_tells k false region new c before e s = absurd (true≢false (sym e))
 
-  painted-tells : Listed (function file p) → (d b : Bool) (region : ℤ → ℤ → Bool) (new : Meaning → ℤ → ℤ → ℕ) (c before : DeviceContext) → d ≡ false → b ≡ true → Settled c
+  painted_tells : Listed (function file p) → (d b : Bool) (region : ℤ → ℤ → Bool) (new : Meaning → ℤ → ℤ → ℕ) (c before : DeviceContext) → d ≡ false → b ≡ true → Settled c
       → Tells (drawing (cond d (refuse refusal.Operation) (cond b (draw region new) (refuse refusal.Range))) c before)
-  painted-tells k true b region new c before d e s = absurd (true≢false d)
-  painted-tells k false b region new c before d e s = drawn-tells k b region new c before e s
+  painted_tells k true b region new c before d e s = absurd (true≢false d)
+  painted_tells k false b region new c before d e s = drawn_tells k b region new c before e s
 
-  allowed-tells : Listed (function file p) → (r : Result (Unit {0}) Refusal) (c before : DeviceContext) → Fine r → Settled c → Settled before → Tells (allowed r c before)
-  allowed-tells k (Ok u) c before f s b = (s, (l, k))
-  allowed-tells k (Err e) c before f s b = (b, (l, k, f.0, f.1, refl))
+  allowed_tells : Listed (function file p) → (r : Result (Unit {0}) Refusal) (c before : DeviceContext) → Fine r → Settled c → Settled before → Tells (allowed r c before)
+  allowed_tells k (Ok u) c before f s b = (s, (l, k))
+  allowed_tells k (Err e) c before f s b = (b, (l, k, f.0, f.1, refl))
 
-  record-tells : (view : ℕ → ℕ) (r : Record) (c : DeviceContext) → Shows (function file p) (parameters file p) r → Settled c → Tells (plays (seen_record view r) c)
-  record-tells view shown.End c h s = (s, (l, h))
-  record-tells view (shown.SetWindowOrg x y) c h s = (record { position = s.position; window = pointed _ x y h.1; viewport = s.viewport }, (l, inr (inl (inl h.0))))
-  record-tells view (shown.SetViewportOrg x y) c h s = (record { position = s.position; window = s.window; viewport = pointed _ x y h.1 }, (l, inr (inl (inr (inl h.0)))))
-  record-tells view (shown.MoveTo x y) c h s = (record { position = pointed _ x y h.1; window = s.window; viewport = s.viewport }, (l, inr (inl (inr (inr (inr h.0))))))
-  record-tells view (shown.LineTo x y) c h s =
-      drawn-tells (inr (inl (inr (inr (inl h.0))))) _ _ _ _ _ (both _ _ (at_cell c c.position s s.position) (at_cell c _ s (pointed _ x y h.1)))
+  record_tells : (view : ℕ → ℕ) (r : Record) (c : DeviceContext) → Shows (function file p) (parameters file p) r → Settled c → Tells (plays (seen_record view r) c)
+  record_tells view shown.End c h s = (s, (l, h))
+  record_tells view (shown.SetWindowOrg x y) c h s = (record { position = s.position; window = pointed _ x y h.1; viewport = s.viewport }, (l, inr (inl (inl h.0))))
+  record_tells view (shown.SetViewportOrg x y) c h s = (record { position = s.position; window = s.window; viewport = pointed _ x y h.1 }, (l, inr (inl (inr (inl h.0)))))
+  record_tells view (shown.MoveTo x y) c h s = (record { position = pointed _ x y h.1; window = s.window; viewport = s.viewport }, (l, inr (inl (inr (inr (inr h.0))))))
+  record_tells view (shown.LineTo x y) c h s =
+      drawn_tells (inr (inl (inr (inr (inl h.0))))) _ _ _ _ _ (both _ _ (at_cell c c.position s s.position) (at_cell c _ s (pointed _ x y h.1)))
       (record { position = pointed _ x y h.1; window = s.window; viewport = s.viewport })
-  record-tells view (shown.PatBlt code x y w h) c (f, n, k, d, eh, ew, ey, ex, pw, ph) s =
-      painted-tells (paints _ f) _ _ _ _ _ _ d
+  record_tells view (shown.PatBlt code x y w h) c (f, n, k, d, eh, ew, ey, ex, pw, ph) s =
+      painted_tells (paints _ f) _ _ _ _ _ _ d
       (in_range c (record { x = x; y = y }) w h s (record { x = shortened x _ ex; y = shortened y _ ey }) (shortened w _ ew) (shortened h _ eh) pw ph) s
-  record-tells view (shown.BitBlt code x y w h u v) c (f, n, k, ev, eu, eh, ew, ey, ex, pw, ph) s =
-      drawn-tells (copies _ f) _ _ _ _ _
+  record_tells view (shown.BitBlt code x y w h u v) c (f, n, k, ev, eu, eh, ew, ey, ex, pw, ph) s =
+      drawn_tells (copies _ f) _ _ _ _ _
       (both _ _ (in_range c (record { x = x; y = y }) w h s (record { x = shortened x _ ex; y = shortened y _ ey }) (shortened w _ ew) (shortened h _ eh) pw ph)
       (at_cell c (record { x = u; y = v }) s (record { x = shortened u _ eu; y = shortened v _ ev }))) s
-  record-tells view (shown.IntersectClipRect a b d e) c h s = (record { position = s.position; window = s.window; viewport = s.viewport }, (l, inr (inr (inr (inr (inl h.0))))))
-  record-tells view (shown.SetRop2 m) c h s = (record { position = s.position; window = s.window; viewport = s.viewport }, (l, modes _ h.0))
-  record-tells view (shown.SetBkColor w) c h s = (record { position = s.position; window = s.window; viewport = s.viewport }, (l, grounds _ h.0))
-  record-tells view (shown.CreateBrushIndirect b) c h s =
-      allowed-tells (brushes _ h.0) _ _ _ (put_fine _) (record { position = s.position; window = s.window; viewport = s.viewport }) s
-  record-tells view (shown.CreatePenIndirect b) c h s =
-      allowed-tells (pens _ h.0) _ _ _ (put_fine _) (record { position = s.position; window = s.window; viewport = s.viewport }) s
-  record-tells view (shown.SelectObject i) c h s =
-      allowed-tells (inr (inr (inr (inr (inr (inr (inr (inr (inr (inl h.0)))))))))) _ _ _ (there_fine _) (record { position = s.position; window = s.window; viewport = s.viewport }) s
-  record-tells view (shown.DeleteObject i) c h s =
-      allowed-tells (inr (inr (inr (inr (inr (inr (inr (inr (inr (inr h.0)))))))))) _ _ _ (remove_fine _) (record { position = s.position; window = s.window; viewport = s.viewport }) s
-  record-tells view (shown.Unlisted f rest) c h s = (s, (l, h.0))
+  record_tells view (shown.IntersectClipRect a b d e) c h s = (record { position = s.position; window = s.window; viewport = s.viewport }, (l, inr (inr (inr (inr (inl h.0))))))
+  record_tells view (shown.SetRop2 m) c h s = (record { position = s.position; window = s.window; viewport = s.viewport }, (l, modes _ h.0))
+  record_tells view (shown.SetBkColor w) c h s = (record { position = s.position; window = s.window; viewport = s.viewport }, (l, grounds _ h.0))
+  record_tells view (shown.CreateBrushIndirect b) c h s =
+      allowed_tells (brushes _ h.0) _ _ _ (put_fine _) (record { position = s.position; window = s.window; viewport = s.viewport }) s
+  record_tells view (shown.CreatePenIndirect b) c h s =
+      allowed_tells (pens _ h.0) _ _ _ (put_fine _) (record { position = s.position; window = s.window; viewport = s.viewport }) s
+  record_tells view (shown.SelectObject i) c h s =
+      allowed_tells (inr (inr (inr (inr (inr (inr (inr (inr (inr (inl h.0)))))))))) _ _ _ (there_fine _) (record { position = s.position; window = s.window; viewport = s.viewport }) s
+  record_tells view (shown.DeleteObject i) c h s =
+      allowed_tells (inr (inr (inr (inr (inr (inr (inr (inr (inr (inr h.0)))))))))) _ _ _ (remove_fine _) (record { position = s.position; window = s.window; viewport = s.viewport }) s
+  record_tells view (shown.Unlisted f rest) c h s = (s, (l, h.0))
 
 settled : (file : List ℕ) (t : Progress) → Standing file t → Settled t.context
 settled file t s = record { position = s.position; window = s.window; viewport = s.viewport }
@@ -237,7 +237,7 @@ step_says view file t a t' m (broken c p b e g h) s =
     let says : Says file t.place (told t.place (Err c)) = (b.0, broken_listed _ _ c b.1, k.0, k.1, refl) in
     (subst (Says file t.place) (sym e) says, subst (Standing file) (sym g) (past_stands file (end file t.place) (Err c) t t.context p (settled file t s) says))
 step_says view file t a t' m (played r o p d k e g h) s =
-    let tells : Tells file t.place d.0 o = subst (Tells file t.place d.0) (sym k) (record-tells file t.place d.0 view r t.context d.1 (settled file t s)) in
+    let tells : Tells file t.place d.0 o = subst (Tells file t.place d.0) (sym k) (record_tells file t.place d.0 view r t.context d.1 (settled file t s)) in
     (subst (Says file t.place) (sym e) tells.1, subst (Standing file) (sym g) (past_stands file (end file t.place) o.answer t o.context p tells.0 tells.1))
 
 step_rightly : (view : ℕ → ℕ) (file : List ℕ) (t : Progress) (a : Result Answer StepFault) (t' : Progress) (m : Mark)

@@ -85,4 +85,4 @@ Few a b e = (a ≤ℤ b) × (b ≤ℤ (a +ℤ pos 65535)) × (b ≤ℤ e)
 
 -- an open cell lies inside the size
 pub open_inside : (m : Meaning) → Sound m → (x y : ℤ) → T (m.opens x y) → T (inside m.width m.height x y)
-open_inside m s x y t = elim (cases_Bool (inside m.width m.height x y)) [ inl e ↦ subst T (sym e) tt | inr e ↦ absurd (subst T (s.shut-outside x y e) t) ]
+open_inside m s x y t = elim (cases_Bool (inside m.width m.height x y)) [ inl e ↦ subst T (sym e) tt | inr e ↦ absurd (subst T (s.shut_outside x y e) t) ]

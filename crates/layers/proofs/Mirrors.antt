@@ -16,10 +16,10 @@ outside-inside : (w h : ℕ) (x y : ℤ) → spans (pos 0) w x ≡ false → ins
 outside-inside w h x y e = across-inside w h x y ∙ ap (λ t. t && spans (pos 0) h y) e
 
 pub blank : (m : Meaning) → Sound m → (x y : ℤ) → spans (pos 0) m.width x ≡ false → 0 ≡ m.word (across m.width x) y
-blank m s x y e = sym (s.blank-outside (across m.width x) y (outside-inside m.width m.height x y e))
+blank m s x y e = sym (s.blank_outside (across m.width x) y (outside-inside m.width m.height x y e))
 
 pub shut : (m : Meaning) → Sound m → (x y : ℤ) → spans (pos 0) m.width x ≡ false → false ≡ m.opens (across m.width x) y
-shut m s x y e = sym (s.shut-outside (across m.width x) y (outside-inside m.width m.height x y e))
+shut m s x y e = sym (s.shut_outside (across m.width x) y (outside-inside m.width m.height x y e))
 
 -- Below, the k cells from a are those that show the cells of the strip inside the size.
 pub mirror_fills : (m m' : Meaning) → Sound m → (a b x y : ℤ) (k n v : ℕ) → m' ≡ filled a b k v m → b ≡ y → ((p : ℤ) → spans a k (across m.width p) ≡ (spans x n p && (le_z (pos 0) p && lt_z p (pos m.width)))) → mirrored m' ≡ filled x y n v (mirrored m)

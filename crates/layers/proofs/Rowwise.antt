@@ -22,8 +22,8 @@ shut_down cells x x' to e s h z p q =
 
 -- the open cells of a strip, where its part inside the size is the k cells from a
 module _ (m : Meaning) (sound : Sound m) (x y : ℤ) (n : ℕ) (a : ℤ) (k : ℕ) (part : (z : ℤ) → spans a k z ≡ (spans x n z && (le_z (pos 0) z && lt_z z (pos m.width)))) (from to : ℤ) (low : from ≡ a) (high : to ≡ (a +ℤ pos k)) where
-  in-part : (p q : ℤ) → T (strip x y n p q && m.opens p q) → (q ≡ y) × (from ≤ℤ p) × (p <ℤ to) × (m.opens p y ≡ true)
-  in-part p q t =
+  in_part : (p q : ℤ) → T (strip x y n p q && m.opens p q) → (q ≡ y) × (from ≤ℤ p) × (p <ℤ to) × (m.opens p y ≡ true)
+  in_part p q t =
       let u = and_out (strip x y n p q) (m.opens p q) t in
       let o = on_out x y n p q u.0 in
       let i = and_out (spans (pos 0) m.width p) (spans (pos 0) m.height q) (open_inside m sound p q u.1) in
@@ -37,7 +37,7 @@ module _ (m : Meaning) (sound : Sound m) (x y : ℤ) (n : ℕ) (a : ℤ) (k : �
       and_in (strip x y n p y) (m.opens p y) (on_in x y n p y (record { row = refl; from = u.0; to = u.1 })) (subst T (sym e) tt)
 
   pub reached-none : Shut (row y m) from to → (p q : ℤ) → T (strip x y n p q && m.opens p q) → ⊥
-  reached-none s p q t = let h = in-part p q t in both_ways (m.opens p y) (s p h.1 h.2) h.3
+  reached-none s p q t = let h = in_part p q t in both_ways (m.opens p y) (s p h.1 h.2) h.3
 
   pub reached-some : (f l r b : ℤ) → First (row y m) from to f → Last (row y m) from to l → r ≡ (l +ℤ pos 1) → b ≡ (y +ℤ pos 1) → Ends (λ p q. strip x y n p q && m.opens p q) (record { left = f; top = y; right = r; bottom = b })
   reached-some f l r b first last right bottom =
@@ -48,7 +48,7 @@ module _ (m : Meaning) (sound : Sound m) (x y : ℤ) (n : ℕ) (a : ℤ) (k : �
         first = part_in f first.low first.high first.here;
         last = subst (λ q. T (cells (r -ℤ pos 1) q)) eb (subst (λ p. T (cells p y)) er (part_in l last.low last.high last.here));
         all = λ p q t.
-            let h = in-part p q t in
+            let h = in_part p q t in
             let e = h.0 in
             let lo : f ≤ℤ p = by_lt_z p f (λ lt. absurd (both_ways (m.opens p y) (first.others p h.1 lt) h.3)) (λ le. le) in
             let hi : p ≤ℤ l = by_lt_z l p (λ lt. absurd (both_ways (m.opens p y) (last.others p (omega (arith, ints)) h.2) h.3)) (λ le. le) in

@@ -23,13 +23,13 @@ pub mirror_sound : {m : Meaning} → Sound m → Sound (mirrored m)
 mirror_sound {m} s = record {
   wide = s.wide;
   high = s.high;
-  no-column = s.no-column;
+  no_column = s.no_column;
   no_row = s.no_row;
   deep = s.deep;
   shallow = s.shallow;
   fits = λ x y. s.fits (across m.width x) y;
-  blank-outside = λ x y e. s.blank-outside (across m.width x) y (across-inside m.width m.height x y ∙ e);
-  shut-outside = λ x y e. s.shut-outside (across m.width x) y (across-inside m.width m.height x y ∙ e);
+  blank_outside = λ x y e. s.blank_outside (across m.width x) y (across-inside m.width m.height x y ∙ e);
+  shut_outside = λ x y e. s.shut_outside (across m.width x) y (across-inside m.width m.height x y ∙ e);
 }
 
 pub mirror_frame : (m n : Meaning) → frame m ≡ frame n → frame (mirrored m) ≡ frame (mirrored n)
@@ -39,13 +39,13 @@ pub fence_sound : (r : Rect) {m : Meaning} → Sound m → Sound (fenced r m)
 fence_sound r s = record {
   wide = s.wide;
   high = s.high;
-  no-column = s.no-column;
+  no_column = s.no_column;
   no_row = s.no_row;
   deep = s.deep;
   shallow = s.shallow;
   fits = s.fits;
-  blank-outside = s.blank-outside;
-  shut-outside = λ x y e. ap (λ t. holds r x y && t) (s.shut-outside x y e) ∙ and-false (holds r x y);
+  blank_outside = s.blank_outside;
+  shut_outside = λ x y e. ap (λ t. holds r x y && t) (s.shut_outside x y e) ∙ and-false (holds r x y);
 }
 
 pub fence_frame : (r t : Rect) (m n : Meaning) → r ≡ t → frame m ≡ frame n → frame (fenced r m) ≡ frame (fenced t n)

@@ -1,4 +1,6 @@
 // Layers: surfaces that stand on a surface.
+#![tactic(auto)]
+
 mod fence;
 mod inside;
 mod laws;

@@ -48,7 +48,7 @@ impl<S: Surface> Meter<S> {
 
 // The first open cell of a row in from..to.
 fn first_open<S: Surface>(below: &S, y: i32, from: i32, to: i32) -> Option<i32>
-    ensures { MatchOption result (Shut (row y (means below.now)) from to) (First (row y (means below.now)) from to) }
+    ensures { MatchOption result (Shut (row y (S.means below.now)) from to) (First (row y (S.means below.now)) from to) }
 {
     for x in from..to {
         if below.is_open(x, y) {
@@ -60,7 +60,7 @@ fn first_open<S: Surface>(below: &S, y: i32, from: i32, to: i32) -> Option<i32>
 
 // The last open cell of a row in from..to.
 fn last_open<S: Surface>(below: &S, y: i32, from: i32, to: i32) -> Option<i32>
-    ensures { MatchOption result (Shut (row y (means below.now)) from to) (Last (row y (means below.now)) from to) }
+    ensures { MatchOption result (Shut (row y (S.means below.now)) from to) (Last (row y (S.means below.now)) from to) }
 {
     for x in (from..to).rev() {
         if below.is_open(x, y) {
@@ -72,7 +72,7 @@ fn last_open<S: Surface>(below: &S, y: i32, from: i32, to: i32) -> Option<i32>
 
 // The smallest rectangle that holds the open cells of a strip.
 fn reached<S: Surface>(below: &S, x: i32, y: i32, n: u16) -> Option<Rect>
-    ensures { Spanned (λ a b. strip x y n a b && (means below.now).opens a b) result }
+    ensures { Spanned (λ a b. strip x y n a b && (S.means below.now).opens a b) result }
 {
     let part = cut(x, n, 0, i32::from(below.width()));
     let end = part.start + i32::from(part.count);

@@ -30,7 +30,7 @@ impl<S: Surface> Mirror<S> {
 
 // The column that the mirror shows at x.
 fn column<S: Surface>(below: &S, x: i32) -> Option<i32>
-    ensures { MatchOption result (spans (pos 0) (means below.now).width x ≡ false) (λ c. c ≡ across (means below.now).width x) }
+    ensures { MatchOption result (spans (pos 0) (S.means below.now).width x ≡ false) (λ c. c ≡ across (S.means below.now).width x) }
 {
     let width = i32::from(below.width());
     if 0 <= x && x < width {

@@ -12,7 +12,7 @@ use Rattle.surface.specs.Meaning.{Meaning, inside, spans, strip}
 use Rattle.surface.specs.Rects.{Keep, holds, overlap}
 use Rattle.surface.specs.Drawing.{Drawn}
 use Rattle.surface.specs.declared.rect.Rect.{Rect}
-use Rattle.surface.proofs.Strokes.{Cells, Shades, at_set, cell_out, drawn-none, local-more}
+use Rattle.surface.proofs.Strokes.{Cells, Shades, at_set, cell_out, drawn-none, local_more}
 use Rattle.pencil.specs.declared.pen.Pen.{Pen}
 use Rattle.pencil.specs.declared.pen.Pen.TheVariants as pen
 use Rattle.drawing.specs.Areas.{between, coordinate, placed}
@@ -97,14 +97,14 @@ module _ (p q : Point) (rect : Rect) where
       ]
 
   -- a line before the first place in a rectangle, and after the last
-  pub trace-none : (first last : ℕ) → Meets p q rect first last → first ≤ longer p q → (a b : ℤ) → (traced p q first a b && holds rect a b) ≡ false
-  trace-none first last m h = traced-none first (λ j l. shut _ (λ t. let f = m.places j _ (omega arith) t in omega arith))
+  pub trace_none : (first last : ℕ) → Meets p q rect first last → first ≤ longer p q → (a b : ℤ) → (traced p q first a b && holds rect a b) ≡ false
+  trace_none first last m h = traced-none first (λ j l. shut _ (λ t. let f = m.places j _ (omega arith) t in omega arith))
 
-  pub trace-all : (first last : ℕ) → Meets p q rect first last → (a b : ℤ) → (traced p q last a b && holds rect a b) ≡ (traced p q (longer p q) a b && holds rect a b)
-  trace-all first last m = traced-past last (longer p q) m.end (λ j u v. shut _ (λ t. let f = m.places j _ v t in omega arith))
+  pub trace_all : (first last : ℕ) → Meets p q rect first last → (a b : ℤ) → (traced p q last a b && holds rect a b) ≡ (traced p q (longer p q) a b && holds rect a b)
+  trace_all first last m = traced-past last (longer p q) m.end (λ j u v. shut _ (λ t. let f = m.places j _ v t in omega arith))
 
-  pub trace-empty : (first last : ℕ) → Meets p q rect first last → last ≤ first → (a b : ℤ) → (traced p q (longer p q) a b && holds rect a b) ≡ false
-  trace-empty first last m h = traced-none (longer p q) (λ j l. shut _ (λ t. let f = m.places j _ l t in omega arith))
+  pub trace_empty : (first last : ℕ) → Meets p q rect first last → last ≤ first → (a b : ℤ) → (traced p q (longer p q) a b && holds rect a b) ≡ false
+  trace_empty first last m h = traced-none (longer p q) (λ j l. shut _ (λ t. let f = m.places j _ l t in omega arith))
 
   module _ {R : Type 0} (mode : LineMode) (ink : ℕ) (m m' m'' : Meaning) (k k' k'' : Keep) (z z' z'' : R) where
     split : (n : ℕ) (c : Point) → c ≡ spot p q n → (a b : ℤ)
@@ -118,15 +118,15 @@ module _ (p q : Point) (rect : Rect) where
         (at_set (traced p q n) c.x c.y a b (and_parts (strip c.x c.y 1 a b) _ h).0 ∙ ap (λ c. traced p q n c.x c.y) e ∙ spot-fresh p q n)
 
     -- a line, one cell on
-    pub trace-step : (n n' aside rest long short : ℕ) (c : Point) → n' ≡ suc n → long ≡ longer p q → short ≡ shorter p q
+    pub trace_step : (n n' aside rest long short : ℕ) (c : Point) → n' ≡ suc n → long ≡ longer p q → short ≡ shorter p q
         → Aside short long n aside rest → c ≡ place p q n aside
         → Drawn (λ a b. traced p q n a b && holds rect a b) (mixing mode ink m) m k z m' k' z'
         → Drawn (λ a b. strip c.x c.y 1 a b && holds rect a b) (mixing mode ink m') m' k' z' m'' k'' z''
         → Drawn (λ a b. traced p q n' a b && holds rect a b) (mixing mode ink m) m k z m'' k'' z''
-    trace-step n n' aside rest long short c en el es w ec d e =
+    trace_step n n' aside rest long short c en el es w ec d e =
         let t : aside ≡ (2 * (n * shorter p q) + longer p q) / (2 * longer p q) = simp (← el, ← es) (aside_is aside long rest _ w.sum w.small) in
         let is : c ≡ spot p q n = ec ∙ ap (place p q n) t in
-        simp en (local-more _ _ _ (λ _ _ d. mixed (mode_number mode) ink d) m m' m'' k k' k'' z z' z'' (split n c is) (fresh n c is) d e)
+        simp en (local_more _ _ _ (λ _ _ d. mixed (mode_number mode) ink d) m m' m'' k k' k'' z z' z'' (split n c is) (fresh n c is) d e)
 
 pub aside_next : (aside rest along short long : ℕ) → Aside short long along aside rest → rest + 2 * short < 2 * long → Aside short long (along + 1) aside (rest + 2 * short)
 aside_next aside rest along short long w h =
@@ -214,13 +214,13 @@ page-holds u v w h eu ev a b = ap (λ u. holds (page u v) a b) eu ∙ ap (λ v. 
 
 module _ {R : Type 0} where
   -- a pen that draws, and one that does not
-  pub pen-draws : (t : Pen) (c : ℕ) (cells : Cells) (mode : LineMode) (m m' : Meaning) (k k' : Keep) (z z' : R) → t ≡ pen.Solid c
+  pub pen_draws : (t : Pen) (c : ℕ) (cells : Cells) (mode : LineMode) (m m' : Meaning) (k k' : Keep) (z z' : R) → t ≡ pen.Solid c
       → Drawn cells (mixing mode c m) m k z m' k' z' → Drawn (λ a b. draws t && cells a b) (mixing mode (colour t) m) m k z m' k' z'
-  pen-draws t c cells mode m m' k k' z z' e d = subst (λ t. Drawn (λ a b. draws t && cells a b) (mixing mode (colour t) m) m k z m' k' z') (sym e) d
+  pen_draws t c cells mode m m' k k' z z' e d = subst (λ t. Drawn (λ a b. draws t && cells a b) (mixing mode (colour t) m) m k z m' k' z') (sym e) d
 
-  pub pen-idle : (t : Pen) (cells : Cells) (mode : LineMode) (m : Meaning) (k : Keep) (z : R) → t ≡ pen.Null
+  pub pen_idle : (t : Pen) (cells : Cells) (mode : LineMode) (m : Meaning) (k : Keep) (z : R) → t ≡ pen.Null
       → Drawn (λ a b. draws t && cells a b) (mixing mode (colour t) m) m k z m k z
-  pen-idle t cells mode m k z e = drawn-none _ _ m k z (λ a b. ap (λ t. draws t && cells a b) e)
+  pen_idle t cells mode m k z e = drawn-none _ _ m k z (λ a b. ap (λ t. draws t && cells a b) e)
 
 -- how far aside a line is, by division
 pub aside_div : (along short long t n : ℕ) → 0 < long → short ≤ long → t ≡ 2 * along * short + long → n ≡ 2 * long → Aside short long along (t / n) (t % n)
@@ -247,8 +247,8 @@ shown_cells false h c i e = refl
 
 -- differences of two numbers of 32 bits
 module _ (a b u v : ℤ) (fa : SFits w32 a) (fb : SFits w32 b) (eu : u ≡ a) (ev : v ≡ b) where
-  pub gap-fits : SFits w64 (u -ℤ v)
-  gap-fits = omega (arith, ints)
+  pub gap_fits : SFits w64 (u -ℤ v)
+  gap_fits = omega (arith, ints)
 
   pub more-fits : SFits w64 ((u -ℤ v) +ℤ pos 1)
   more-fits = omega (arith, ints)
@@ -263,5 +263,5 @@ module _ (a b u v : ℤ) (i : ℕ) (eu : u ≡ a) (ev : v ≡ b) where
   pub up_first : a ≤ℤ (b +ℤ pos i) → (u -ℤ v) ≤ℤ pos i
   up_first h = omega (arith, ints)
 
-  pub up-last : (b +ℤ pos i) <ℤ a → pos i <ℤ (u -ℤ v)
-  up-last h = omega (arith, ints)
+  pub up_last : (b +ℤ pos i) <ℤ a → pos i <ℤ (u -ℤ v)
+  up_last h = omega (arith, ints)

@@ -1,4 +1,6 @@
 // Lines on any surface.
+#![tactic(auto)]
+
 mod course;
 mod tracing;
 

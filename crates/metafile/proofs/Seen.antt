@@ -282,8 +282,8 @@ one_cause f ps d e h k =
     let b : seen f ps slice ≡ Err e = seen_cause f ps e slice k in
     alike_causes (seen f ps slice) d e a b
 
-pub not-both : (f : ℕ) (ps : List ℕ) (r : Record) (e : Refusal) → Shows f ps r → Breaks f ps e → ⊥
-not-both f ps r e h k =
+pub not_both : (f : ℕ) (ps : List ℕ) (r : Record) (e : Refusal) → Shows f ps r → Breaks f ps e → ⊥
+not_both f ps r e h k =
     elim (shown_record f ps r h) [
       | inl a ↦ apart (seen f ps slice) r e (a slice) (seen_cause f ps e slice k)
       | inr a ↦ apart (seen f ps slice) (shown.Unlisted f slice) e (a.3 slice) (seen_cause f ps e slice k)

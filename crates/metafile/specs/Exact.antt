@@ -14,6 +14,6 @@ Elsewhere r s =
 -- There is a record or a cause; two records are one (but for where an unlisted one's bytes lie), two causes are one, and there is never a record with a cause.
 pub record Exact : Type 0 where
   pub some : (f : ℕ) (ps : List ℕ) → ((r : Record) × Shows f ps r) ⊎ ((e : Refusal) × Breaks f ps e)
-  pub one-record : (f : ℕ) (ps : List ℕ) (r s : Record) → Shows f ps r → Shows f ps s → (r ≡ s) ⊎ Elsewhere r s
-  pub one-cause : (f : ℕ) (ps : List ℕ) (d e : Refusal) → Breaks f ps d → Breaks f ps e → d ≡ e
-  pub not-both : (f : ℕ) (ps : List ℕ) (r : Record) (e : Refusal) → Shows f ps r → Breaks f ps e → ⊥
+  pub one_record : (f : ℕ) (ps : List ℕ) (r s : Record) → Shows f ps r → Shows f ps s → (r ≡ s) ⊎ Elsewhere r s
+  pub one_cause : (f : ℕ) (ps : List ℕ) (d e : Refusal) → Breaks f ps d → Breaks f ps e → d ≡ e
+  pub not_both : (f : ℕ) (ps : List ℕ) (r : Record) (e : Refusal) → Shows f ps r → Breaks f ps e → ⊥

@@ -1,4 +1,6 @@
 // Windows metafiles as bytes: the header, how records lie in a file, and what each record asks for.
+#![tactic(auto)]
+
 mod bytes;
 mod checked;
 mod decoding;

@@ -41,8 +41,8 @@ fn write_size(width: u16, height: u16, out: &mut [u8]) -> Result<usize, Refusal>
 // Writes the header of a raw PBM file to the front of a buffer, and gives the number of its bytes.
 // A picture without cells has none, and a buffer that is too short is refused: it then stays as it was.
 pub fn write_header<S: Surface>(surface: &S, out: &mut [u8]) -> Result<usize, Refusal>
-    ensures answer { result ≡ answer (celled (means surface.now)) (length (header (means surface.now).width (means surface.now).height)) (length out.old) }
-    ensures buffer { Wrote (header (means surface.now).width (means surface.now).height) out.old out.new result }
+    ensures answer { result ≡ answer (celled (S.means surface.now)) (length (header (S.means surface.now).width (S.means surface.now).height)) (length out.old) }
+    ensures buffer { Wrote (header (S.means surface.now).width (S.means surface.now).height) out.old out.new result }
 {
     let width = surface.width();
     let height = surface.height();

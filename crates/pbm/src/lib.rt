@@ -1,4 +1,6 @@
 // Raw PBM, the bitmap format of Netpbm: a header, and then row after row.
+#![tactic(auto)]
+
 mod header;
 mod numeral;
 mod row;

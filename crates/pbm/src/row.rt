@@ -8,7 +8,7 @@ use surface::Surface;
 fn pixel<S: Surface>(surface: &S, x: usize, y: u32) -> u8
     requires left { x < 2 ^ 16 }
     requires high { y < 2 ^ 16 }
-    ensures { result ≡ pixel (means surface.now) y x }
+    ensures { result ≡ pixel (S.means surface.now) y x }
 {
     if x < surface.width() as usize {
         1 - (surface.word(x as i32, y as i32) % 2) as u8
@@ -21,7 +21,7 @@ fn pixel<S: Surface>(surface: &S, x: usize, y: u32) -> u8
 fn octet<S: Surface>(surface: &S, i: usize, y: u32) -> u8
     requires left { i < 2 ^ 12 }
     requires high { y < 2 ^ 16 }
-    ensures { result ≡ octet (means surface.now) y i }
+    ensures { result ≡ octet (S.means surface.now) y i }
 {
     let mut byte = 0;
     for k in 0..8 {
@@ -33,8 +33,8 @@ fn octet<S: Surface>(surface: &S, i: usize, y: u32) -> u8
 // Writes row y of a raw PBM file to the front of a buffer, and gives the number of its bytes.
 // A row outside the picture and a buffer that is too short are refused: the buffer then stays as it was.
 pub fn write_row<S: Surface>(surface: &S, y: u32, out: &mut [u8]) -> Result<usize, Refusal>
-    ensures answer { result ≡ answer (celled (means surface.now) && nat_lt y (means surface.now).height) (((means surface.now).width + 7) / 8) (length out.old) }
-    ensures buffer { Wrote (row (means surface.now) y) out.old out.new result }
+    ensures answer { result ≡ answer (celled (S.means surface.now) && nat_lt y (S.means surface.now).height) (((S.means surface.now).width + 7) / 8) (length out.old) }
+    ensures buffer { Wrote (row (S.means surface.now) y) out.old out.new result }
 {
     if y >= surface.height() as u32 {
         return Err(Refusal::Row);

@@ -1,4 +1,6 @@
 // What drawing is done with: pens, brushes, and the pencil that holds one of each with a clip, a line mode and a back colour.
+#![tactic(auto)]
+
 mod brush;
 mod narrowing;
 mod pen;

@@ -1,4 +1,6 @@
 // Plays a sample on every raster and through piles of layers, and prints what must agree and a few pictures.
+#![tactic(auto)]
+
 mod looks;
 mod pile;
 mod playing;

@@ -1,4 +1,6 @@
 // What a run's records change, and what each does: the playback device context.
+#![tactic(auto)]
+
 mod answer;
 mod context;
 mod objects;

@@ -7,7 +7,7 @@ use Rattle.metafile.specs.Exact.{Elsewhere}
 use Rattle.metafile.specs.Frames.{Lies, end, function, parameters}
 use Rattle.metafile.specs.declared.record.Record.{Record}
 use Rattle.metafile.proofs.Outcomes.{outcome}
-use Rattle.metafile.proofs.Seen.{one_record, one_cause, not-both}
+use Rattle.metafile.proofs.Seen.{one_record, one_cause, not_both}
 use Rattle.playback.specs.Records.{Mark, untouched, Outcome, plays}
 use Rattle.playback.specs.declared.answer.Answer.{Answer}
 use Rattle.playback.specs.declared.answer.Answer.TheVariants as answer
@@ -72,10 +72,10 @@ module _ (view : ℕ → ℕ) (file : List ℕ) (t : Progress) where
   one-step a b u v m n (broken c p d e g h) (broken c' p' d' e' g' h') =
       let same : c ≡ c' = one_cause _ _ c c' d.1 d'.1 in
       (e ∙ ap (λ c. told t.place (Err c)) same ∙ sym e', g ∙ ap (λ c. past (end file t.place) (Err c) t) same ∙ sym g', h ∙ sym h')
-  one-step a b u v m n (broken c p d e g h) (played r' o' p' s' k' e' g' h') = absurd (not-both _ _ r' c s'.1 d.1)
+  one-step a b u v m n (broken c p d e g h) (played r' o' p' s' k' e' g' h') = absurd (not_both _ _ r' c s'.1 d.1)
   one-step a b u v m n (played r o p s k e g h) (over p' e' g' h') = absurd (not_over _ p p')
   one-step a b u v m n (played r o p s k e g h) (lost p' l' e' g' h') = absurd (l' s.0)
-  one-step a b u v m n (played r o p s k e g h) (broken c' p' d' e' g' h') = absurd (not-both _ _ r c' s.1 d'.1)
+  one-step a b u v m n (played r o p s k e g h) (broken c' p' d' e' g' h') = absurd (not_both _ _ r c' s.1 d'.1)
   one-step a b u v m n (played r o p s k e g h) (played r' o' p' s' k' e' g' h') =
       let same : o ≡ o' = k ∙ alike view t.context r r' (one_record _ _ r r' s.1 s'.1) ∙ sym k' in (
         e ∙ ap (λ (o : Outcome). told t.place o.answer) same ∙ sym e',

@@ -43,17 +43,17 @@ ongoing_push (x ∷ ss) s o f = pushed (not (final x.answer)) (ongoing ss) (ongo
     pushed false b c e k = e
 
 module _ {S R : Type 0} (means : S → Meaning) (keeps : S → Keep) (rest : S → R) where
-  pub marks-picture : (k : Mark) (s s' : S) → Marks means keeps rest k s s' → after k (means s) ≡ means s'
-  marks-picture untouched s s' h = ap means (sym h)
-  marks-picture (marked region new) s s' h = sym h.picture
+  pub marks_picture : (k : Mark) (s s' : S) → Marks means keeps rest k s s' → after k (means s) ≡ means s'
+  marks_picture untouched s s' h = ap means (sym h)
+  marks_picture (marked region new) s s' h = sym h.picture
 
-  pub marks-kept : (k : Mark) (s s' : S) → Marks means keeps rest k s s' → Kept (keeps s) (aimed k (means s)) (keeps s')
-  marks-kept untouched s s' h = subst (λ u. Kept (keeps s) (λ _ _. false) (keeps u)) (sym h) (kept_none (keeps s) (λ _ _. false) (λ x y t. t))
-  marks-kept (marked region new) s s' h = h.kept
+  pub marks_kept : (k : Mark) (s s' : S) → Marks means keeps rest k s s' → Kept (keeps s) (aimed k (means s)) (keeps s')
+  marks_kept untouched s s' h = subst (λ u. Kept (keeps s) (λ _ _. false) (keeps u)) (sym h) (kept_none (keeps s) (λ _ _. false) (λ x y t. t))
+  marks_kept (marked region new) s s' h = h.kept
 
-  pub marks-rest : (k : Mark) (s s' : S) → Marks means keeps rest k s s' → rest s' ≡ rest s
-  marks-rest untouched s s' h = ap rest h
-  marks-rest (marked region new) s s' h = h.rest
+  pub marks_rest : (k : Mark) (s s' : S) → Marks means keeps rest k s s' → rest s' ≡ rest s
+  marks_rest untouched s s' h = ap rest h
+  marks_rest (marked region new) s s' h = h.rest
 
   -- a run at t on a surface s has made some steps
   pub record Going (file : List ℕ) (t : Progress) (s : S) (steps : List Step) (u : Progress) (s' : S) : Type 0 where
@@ -62,8 +62,8 @@ module _ {S R : Type 0} (means : S → Meaning) (keeps : S → Keep) (rest : S �
     pub kept : Kept (keeps s) cells (keeps s')
     pub still : rest s' ≡ rest s
 
-  pub going-none : (file : List ℕ) (t : Progress) (s : S) (steps : List Step) → steps ≡ [] → Going file t s steps t s
-  going-none file t s steps e = subst (λ ss. Going file t s ss t s) (sym e) (record {
+  pub going_none : (file : List ℕ) (t : Progress) (s : S) (steps : List Step) → steps ≡ [] → Going file t s steps t s
+  going_none file t s steps e = subst (λ ss. Going file t s ss t s) (sym e) (record {
     cells = λ _ _. false;
     plays = none;
     kept = kept_none (keeps s) (λ _ _. false) (λ x y t. t);
@@ -80,9 +80,9 @@ module _ {S R : Type 0} (means : S → Meaning) (keeps : S → Keep) (rest : S �
       = next a k g.plays (subst (λ b. Steps (λ w. w) b u a v k) f d.1) in
       subst (λ ss. Going file t s ss v s₂) (sym e) (record {
         cells = λ x y. g.cells x y || aimed k (means s₁) x y;
-        plays = subst (λ n. Plays (λ w. w) file t (means s) (steps ++ (record { place = u.place; answer = a } ∷ [])) v n (λ x y. g.cells x y || aimed k (means s₁) x y)) (marks-picture k s₁ s₂ d.2) one;
-        kept = kept_both g.cells (aimed k (means s₁)) g.kept (marks-kept k s₁ s₂ d.2);
-        still = marks-rest k s₁ s₂ d.2 ∙ g.still;
+        plays = subst (λ n. Plays (λ w. w) file t (means s) (steps ++ (record { place = u.place; answer = a } ∷ [])) v n (λ x y. g.cells x y || aimed k (means s₁) x y)) (marks_picture k s₁ s₂ d.2) one;
+        kept = kept_both g.cells (aimed k (means s₁)) g.kept (marks_kept k s₁ s₂ d.2);
+        still = marks_rest k s₁ s₂ d.2 ∙ g.still;
       })
 
 -- what was reserved suffices

@@ -1,4 +1,6 @@
 // Playing a checked metafile on a surface, record by record or to its end.
+#![tactic(auto)]
+
 mod fault;
 mod finding;
 mod progress;

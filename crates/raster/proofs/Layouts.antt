@@ -75,8 +75,8 @@ module _ (w h p d : ℕ) (there : ℤ → Bool) (wp : w ≤ p) where
       (λ e. and_left (strip x y 1 (pos (i % p)) (pos (i / p))) _ (and_right (spans y 1 (pos (i / p))) _ e))
       (cases_Bool (spans x 1 (pos (i % p))))
 
-  pub redrawn-none : (unit : ℕ → ℕ) (x y : ℤ) (n v : ℕ) → has-row h there y ≡ false → Redrawn w h p d there (strip x y n) v unit unit
-  redrawn-none unit x y n v none = record { units = λ i. let t = miss i x y n none in rw t }
+  pub redrawn_none : (unit : ℕ → ℕ) (x y : ℤ) (n v : ℕ) → has-row h there y ≡ false → Redrawn w h p d there (strip x y n) v unit unit
+  redrawn_none unit x y n v none = record { units = λ i. let t = miss i x y n none in rw t }
 
   -- which units a strip of a row reaches: Y is the row, and from..to are its columns
   module _ (i Y from to n : ℕ) (x : ℤ) (row : has-row h there (pos Y) ≡ true) (tw : to ≤ w) (same : (k : ℕ) → k < w → spans x n (pos k) ≡ among from to k) where
@@ -121,17 +121,17 @@ module _ (w h p d : ℕ) (there : ℤ → Bool) (wp : w ≤ p) where
         (λ lo. ⊎_elim (within lo) (λ ge. beside (inr ge)) (cases_lt i (Y * p + p)))
         (cases_lt i (Y * p))
 
-  pub redrawn-row : (old new : ℕ → ℕ) (x y : ℤ) (n v from to : ℕ)
+  pub redrawn_row : (old new : ℕ → ℕ) (x y : ℤ) (n v from to : ℕ)
       → has-row h there y ≡ true → to ≤ w → ((k : ℕ) → k < w → spans x n (pos k) ≡ among from to k)
       → ((i : ℕ) → new i ≡ cond (among (nat_abs y * p + from) (nat_abs y * p + to) i) (v % 2 ^ d) (old i))
       → Redrawn w h p d there (strip x y n) v old new
-  redrawn-row old new x (pos Y) n v from to row tw same f =
+  redrawn_row old new x (pos Y) n v from to row tw same f =
       record { units = λ i. let r = reach i Y from to n x row tw same in let t = f i in cc }
-  redrawn-row old new x (negsuc Y) n v from to row tw same f = absurd (false≢true row)
+  redrawn_row old new x (negsuc Y) n v from to row tw same f = absurd (false≢true row)
 
-  pub redrawn-picture : (old new : ℕ → ℕ) (region : ℤ → ℤ → Bool) (v : ℕ) → Redrawn w h p d there region v old new
+  pub redrawn_picture : (old new : ℕ → ℕ) (region : ℤ → ℤ → Bool) (v : ℕ) → Redrawn w h p d there region v old new
       → laid w h p d there new ≡ drawn region (λ _ _. v) (laid w h p d there old)
-  redrawn-picture old new region v r =
+  redrawn_picture old new region v r =
       let words : (x y : ℤ) → (laid w h p d there new).word x y ≡ (drawn region (λ _ _. v) (laid w h p d there old)).word x y =
       λ x y.
       let place = nat_abs y * p + nat_abs x in
@@ -148,9 +148,9 @@ module _ (w h p d : ℕ) (there : ℤ → Bool) (wp : w ≤ p) where
       λ i. record { width = w; height = h; depth = d; word = λ x y. words x y i; opens = has w h there }
 
   -- a draw leaves the units that are no cell's
-  pub redrawn-others : (old new : ℕ → ℕ) (region : ℤ → ℤ → Bool) (v : ℕ) → Redrawn w h p d there region v old new
+  pub redrawn_others : (old new : ℕ → ℕ) (region : ℤ → ℤ → Bool) (v : ℕ) → Redrawn w h p d there region v old new
       → (i : ℕ) → others w h p there new i ≡ others w h p there old i
-  redrawn-others old new region v r i =
+  redrawn_others old new region v r i =
       ⊎_elim
       (λ t. cc)
       (λ f. let z = and_right (region (pos (i % p)) (pos (i / p))) _ f in let u = r.units i in cc)

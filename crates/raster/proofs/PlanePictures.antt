@@ -9,7 +9,7 @@ use Rattle.raster.specs.Bits.{bit_of, among, Painted}
 use Rattle.raster.specs.Layout.{has-row, has, laid, Redrawn}
 use Rattle.raster.specs.Packing.{stride}
 use Rattle.raster.specs.Planar.{plane, planes_there, four, planar, planar_rest, celled, Planed, PlanesDrawn}
-use Rattle.raster.proofs.Layouts.{in_row, row_of, redrawn-picture, reach, miss}
+use Rattle.raster.proofs.Layouts.{in_row, row_of, redrawn_picture, reach, miss}
 
 pub planed_none : (n a b v : ℕ) (m : List ℕ) → Planed n a b v 0 m m
 planed_none n a b v m = record { bits = λ i. let t : ltb (i / n) 0 ≡ false = grind (arith, nat_tests) in rw t }
@@ -38,8 +38,8 @@ module _ (n a b v k : ℕ) (t : Bool) (old mid new : List ℕ) (bn : b ≤ n) (b
   other : (i : ℕ) → (i / n ≡ k → ⊥) → (ltb (i / n) (k + 1) && among a b (i % n)) ≡ (ltb (i / n) k && among a b (i % n))
   other i ne = let e : ltb (i / n) (k + 1) ≡ ltb (i / n) k = grind (arith, nat_tests) in rw e
 
-  pub planed-more : Planed n a b v (k + 1) old new
-  planed-more = record {
+  pub planed_more : Planed n a b v (k + 1) old new
+  planed_more = record {
     bits = λ i.
         ⊎_elim
         (λ some. ⊎_elim
@@ -81,24 +81,24 @@ module _ (w h : ℕ) (m : List ℕ) where
     abbrev hit : Bool
     hit = region (pos (i % (8 * stride w))) (pos (i / (8 * stride w))) && has w h (planes_there w h m) (pos (i % (8 * stride w))) (pos (i / (8 * stride w)))
 
-    bit-of : (k j : ℕ) → k < 4 → i < plane w h → j ≡ k * plane w h + i → bit_of new j ≡ cond hit (v / 2 ^ k % 2) (bit_of m j)
-    bit-of k j k4 lt at =
+    bit-of_bits : (k j : ℕ) → k < 4 → i < plane w h → j ≡ k * plane w h + i → bit_of new j ≡ cond hit (v / 2 ^ k % 2) (bit_of m j)
+    bit-of_bits k j k4 lt at =
         let e = in_row (plane w h) j k (omega arith) (omega arith) in
         let r : j % plane w h ≡ i = omega arith in
         let l = lt-ltb k 4 k4 in
         let b = d.bits j in
         cc
 
-    unit-of : four (plane w h) new i ≡ cond hit (v % 16) (four (plane w h) m i)
-    unit-of =
+    unit_of : four (plane w h) new i ≡ cond hit (v % 16) (four (plane w h) m i)
+    unit_of =
         let n = plane w h in
         ⊎_elim
         (λ lt.
         let t = lt-ltb i n lt in
         let s =
         sum hit v _ _ _ _ _ _ _ _
-        (bit-of 0 i (omega arith) lt (omega arith)) (bit-of 1 (n + i) (omega arith) lt (omega arith))
-        (bit-of 2 (2 * n + i) (omega arith) lt (omega arith)) (bit-of 3 (3 * n + i) (omega arith) lt (omega arith)) in
+        (bit-of_bits 0 i (omega arith) lt (omega arith)) (bit-of_bits 1 (n + i) (omega arith) lt (omega arith))
+        (bit-of_bits 2 (2 * n + i) (omega arith) lt (omega arith)) (bit-of_bits 3 (3 * n + i) (omega arith) lt (omega arith)) in
         cc)
         (λ ge.
         let t = le-ltb i n ge in
@@ -121,7 +121,7 @@ module _ (w h : ℕ) (m : List ℕ) where
   planar-picture new region v d =
       let n = plane w h in
       subst (λ l. laid w h (8 * stride w) 4 (λ _. leb (4 * (h * stride w)) l) (four n new) ≡ drawn region (λ _ _. v) (planar w h m)) (sym d.long)
-      (redrawn-picture w h (8 * stride w) 4 (planes_there w h m) (omega arith) (four n m) (four n new) region v (record { units = unit-of new region v d }))
+      (redrawn_picture w h (8 * stride w) 4 (planes_there w h m) (omega arith) (four n m) (four n new) region v (record { units = unit_of new region v d }))
 
   pub planes-none : (x y : ℤ) (n v : ℕ) → has-row h (planes_there w h m) y ≡ false → PlanesDrawn w h m (strip x y n) v m
   planes-none x y n v none = record {
@@ -132,9 +132,9 @@ module _ (w h : ℕ) (m : List ℕ) where
   }
 
   -- a draw leaves the bits that are no cell's
-  spared-bit : (new : List ℕ) (region : ℤ → ℤ → Bool) (v : ℕ) → PlanesDrawn w h m region v new
+  spared_bit : (new : List ℕ) (region : ℤ → ℤ → Bool) (v : ℕ) → PlanesDrawn w h m region v new
       → (i : ℕ) → cond (celled w h m (λ _ _. true) i) 0 (bit_of new i) ≡ cond (celled w h m (λ _ _. true) i) 0 (bit_of m i)
-  spared-bit new region v d i =
+  spared_bit new region v d i =
       ⊎_elim
       (λ t. cc)
       (λ f.
@@ -143,10 +143,10 @@ module _ (w h : ℕ) (m : List ℕ) where
       cc)
       (cases_Bool (celled w h m (λ _ _. true) i))
 
-  pub planar-spared : (new : List ℕ) (region : ℤ → ℤ → Bool) (v : ℕ) (l : GName) → PlanesDrawn w h m region v new → planar_rest w h new l ≡ planar_rest w h m l
-  planar-spared new region v l d =
+  pub planar_spared : (new : List ℕ) (region : ℤ → ℤ → Bool) (v : ℕ) (l : GName) → PlanesDrawn w h m region v new → planar_rest w h new l ≡ planar_rest w h m l
+  planar_spared new region v l d =
       let at : ℕ → ℕ → ℕ = λ n i.
       cond (ltb (i / plane w h) 4 && has w h (λ _. leb (4 * (h * stride w)) n) (pos (i % plane w h % (8 * stride w))) (pos (i % plane w h / (8 * stride w)))) 0 (bit_of new i) in
       let spared : (i : ℕ) → at (length new) i ≡ cond (celled w h m (λ _ _. true) i) 0 (bit_of m i) =
-      λ i. subst (λ n. at n i ≡ cond (celled w h m (λ _ _. true) i) 0 (bit_of m i)) (sym d.long) (spared-bit new region v d i) in
+      λ i. subst (λ n. at n i ≡ cond (celled w h m (λ _ _. true) i) 0 (bit_of m i)) (sym d.long) (spared_bit new region v d i) in
       λ j. record { width = w; height = h; bytes = d.long j; lender = l; spare = λ i. spared i j }

@@ -39,30 +39,30 @@ module _ (w h p d : ℕ) (there : ℤ → Bool) (unit : ℕ → ℕ) where
   outside : (x y : ℤ) → inside w h x y ≡ false → has w h there x y ≡ false
   outside x y e = left (spans (pos 0) w x) (spans (pos 0) h y) (there y) e
 
-  pub laid-sound : Sides w h → 1 ≤ d → d ≤ 16 → 0 < 2 ^ d → ((i : ℕ) → unit i < 2 ^ d) → Sound (laid w h p d there unit)
-  laid-sound sides deep shallow some small = record {
+  pub laid_sound : Sides w h → 1 ≤ d → d ≤ 16 → 0 < 2 ^ d → ((i : ℕ) → unit i < 2 ^ d) → Sound (laid w h p d there unit)
+  laid_sound sides deep shallow some small = record {
     wide = sides.wide;
     high = sides.high;
-    no-column = none w h sides.both;
+    no_column = none w h sides.both;
     no_row = none h w (sym sides.both);
     deep = deep;
     shallow = shallow;
     fits = λ x y. below (has w h there x y) (unit (unsigned_abs y * p + unsigned_abs x)) (2 ^ d) some (small (unsigned_abs y * p + unsigned_abs x));
-    blank-outside = λ x y e. ap (λ (t : Bool). cond t (unit (unsigned_abs y * p + unsigned_abs x)) 0) (outside x y e);
-    shut-outside = outside;
+    blank_outside = λ x y e. ap (λ (t : Bool). cond t (unit (unsigned_abs y * p + unsigned_abs x)) 0) (outside x y e);
+    shut_outside = outside;
   }
 
 pub packed_sound : (s : Packed) → Sound (packed.picture s)
 packed_sound s =
     let w = s.size.width in
     let m = s.memory.now in
-    laid-sound w s.size.height (8 * stride w) 1 (there w m) (bit_of m) (sides s.size) (omega arith) (omega arith) (omega arith) (λ i. omega arith)
+    laid_sound w s.size.height (8 * stride w) 1 (there w m) (bit_of m) (sides s.size) (omega arith) (omega arith) (omega arith) (λ i. omega arith)
 
 pub bytes_sound : (s : Bytes) → Sound (bytes.picture s)
 bytes_sound s =
     let w = s.size.width in
     let m = s.memory.now in
-    laid-sound w s.size.height w 8 (row-there w (length m)) (λ i. slice_index m i % 256) (sides s.size) (omega arith) (omega arith) (omega arith) (λ i. omega arith)
+    laid_sound w s.size.height w 8 (row-there w (length m)) (λ i. slice_index m i % 256) (sides s.size) (omega arith) (omega arith) (omega arith) (λ i. omega arith)
 
 four_below : (t : Bool) (a b c d : ℕ) → a < 2 → b < 2 → c < 2 → d < 2 → cond t (a + 2 * b + 4 * c + 8 * d) 0 < 16
 four_below true a b c d p q r s = omega arith
@@ -74,7 +74,7 @@ planes_sound s =
     let h = s.size.height in
     let m = s.memory.now in
     let n = plane w h in
-    laid-sound w h (8 * stride w) 4 (planes_there w h m) (four n m) (sides s.size) (omega arith) (omega arith) (omega arith)
+    laid_sound w h (8 * stride w) 4 (planes_there w h m) (four n m) (sides s.size) (omega arith) (omega arith) (omega arith)
     (λ i. four_below (nat_lt i n) (bit_of m i) (bit_of m (n + i)) (bit_of m (2 * n + i)) (bit_of m (3 * n + i)) (omega arith) (omega arith) (omega arith) (omega arith))
 
 -- what no draw changes holds the frame

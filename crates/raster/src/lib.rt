@@ -1,4 +1,6 @@
 // Surfaces over a caller's memory.
+#![tactic(auto)]
+
 mod bits;
 mod bytes;
 mod laws;

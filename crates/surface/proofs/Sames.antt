@@ -21,14 +21,14 @@ everywhere P k n e h out z =
 pub whole_row : (m n : Meaning) → Sound m → Sound n → m.width ≡ n.width → (y k : ℤ) → k ≡ pos m.width → Upto (λ x. m.word x y ≡ n.word x y) k → SameRow m n y
 whole_row m n s t e y k end h =
     everywhere (λ x. m.word x y ≡ n.word x y) k m.width end h
-    (λ x out. s.blank-outside x y (ap (λ b. b && spans (pos 0) m.height y) out)
-    ∙ sym (t.blank-outside x y (ap (λ b. b && spans (pos 0) n.height y) (ap (λ w. spans (pos 0) w x) (sym e) ∙ out))))
+    (λ x out. s.blank_outside x y (ap (λ b. b && spans (pos 0) m.height y) out)
+    ∙ sym (t.blank_outside x y (ap (λ b. b && spans (pos 0) n.height y) (ap (λ w. spans (pos 0) w x) (sym e) ∙ out))))
 
 pub whole-picture : (m n : Meaning) → Sound m → Sound n → m.width ≡ n.width → m.height ≡ n.height → (k : ℤ) → k ≡ pos m.height → Upto (SameRow m n) k → Same m n
 whole-picture m n s t e f k end h = record {
   width = e;
   height = f;
   rows = everywhere (SameRow m n) k m.height end h
-      (λ y out x. s.blank-outside x y (ap (λ b. spans (pos 0) m.width x && b) out ∙ and-false (spans (pos 0) m.width x))
-      ∙ sym (t.blank-outside x y (ap (λ b. spans (pos 0) n.width x && b) (ap (λ w. spans (pos 0) w y) (sym f) ∙ out) ∙ and-false (spans (pos 0) n.width x))));
+      (λ y out x. s.blank_outside x y (ap (λ b. spans (pos 0) m.width x && b) out ∙ and-false (spans (pos 0) m.width x))
+      ∙ sym (t.blank_outside x y (ap (λ b. spans (pos 0) n.width x && b) (ap (λ w. spans (pos 0) w y) (sym f) ∙ out) ∙ and-false (spans (pos 0) n.width x))));
 }

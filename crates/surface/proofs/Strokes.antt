@@ -51,17 +51,17 @@ module _ {R : Type 0} where
   }
 
   -- the same open cells
-  pub drawn-like : (r q : Cells) (f : Shades) (m m' : Meaning) (k k' : Keep) (z z' : R)
+  pub drawn_like : (r q : Cells) (f : Shades) (m m' : Meaning) (k k' : Keep) (z z' : R)
       → ((x y : ℤ) → (r x y && m.opens x y) ≡ (q x y && m.opens x y)) → Drawn r f m k z m' k' z' → Drawn q f m k z m' k' z'
-  drawn-like r q f m m' k k' z z' e d = record {
+  drawn_like r q f m m' k k' z z' e d = record {
     picture = d.picture ∙ with_words m _ _ (λ x y. ap (λ b. cond b (f x y % 2 ^ m.depth) (m.word x y)) (e x y));
     kept = kept_same _ _ e d.kept;
     rest = d.rest;
   }
 
   -- the same words
-  pub drawn-as : (r : Cells) (f g : Shades) (m m' : Meaning) (k k' : Keep) (z z' : R) → ((a b : ℤ) → f a b ≡ g a b) → Drawn r f m k z m' k' z' → Drawn r g m k z m' k' z'
-  drawn-as r f g m m' k k' z z' e = subst (λ f. Drawn r f m k z m' k' z') (fun_ext (λ a. fun_ext (e a)))
+  pub drawn_as : (r : Cells) (f g : Shades) (m m' : Meaning) (k k' : Keep) (z z' : R) → ((a b : ℤ) → f a b ≡ g a b) → Drawn r f m k z m' k' z' → Drawn r g m k z m' k' z'
+  drawn_as r f g m m' k k' z z' e = subst (λ f. Drawn r f m k z m' k' z') (fun_ext (λ a. fun_ext (e a)))
 
   -- a drawing and then another, which gives each of its cells what the whole gives it
   pub drawn-more : (q r s : Cells) (f g : Shades) (m m' m'' : Meaning) (k k' k'' : Keep) (z z' z'' : R)
@@ -80,31 +80,31 @@ module _ {R : Type 0} where
   drawn-word r f m m' k k' z z' x y d e = ap (λ m. m.word x y) d.picture ∙ sym (cell_none (r x y) (m.opens x y) _ _ e)
 
   -- a drawing and then one more cell
-  pub drawn-cell : (q r : Cells) (f : Shades) (m m' m'' : Meaning) (k k' k'' : Keep) (z z' z'' : R) (x y : ℤ) (v : ℕ)
+  pub drawn_cell : (q r : Cells) (f : Shades) (m m' m'' : Meaning) (k k' k'' : Keep) (z z' z'' : R) (x y : ℤ) (v : ℕ)
       → ((a b : ℤ) → q a b ≡ (r a b || strip x y 1 a b)) → v ≡ f x y
       → Drawn r f m k z m' k' z' → m'' ≡ filled x y 1 v m' → Kept k' (λ a b. strip x y 1 a b && m'.opens a b) k'' → z'' ≡ z' → Drawn q f m k z m'' k'' z''
-  drawn-cell q r f m m' m'' k k' k'' z z' z'' x y v split same d p t u =
+  drawn_cell q r f m m' m'' k k' k'' z z' z'' x y v split same d p t u =
       drawn-more q r (strip x y 1) f (λ _ _. v) m m' m'' k k' k'' z z' z'' split
       (λ a b h. let e = at_cell x y a b h in same ∙ ap (λ a. f a y) e.0 ∙ ap (f a) e.1) d (record { picture = p; kept = t; rest = u })
 
   -- one cell
   pub drawn-one : (f : Shades) (m m' : Meaning) (k k' : Keep) (z z' : R) (x y : ℤ) (v : ℕ) → v ≡ f x y
       → m' ≡ filled x y 1 v m → Kept k (λ a b. strip x y 1 a b && m.opens a b) k' → z' ≡ z → Drawn (strip x y 1) f m k z m' k' z'
-  drawn-one f m m' k k' z z' x y v e = drawn-cell (strip x y 1) (λ _ _. false) f m m m' k k k' z z z' x y v (λ _ _. refl) e (drawn-none (λ _ _. false) f m k z (λ _ _. refl))
+  drawn-one f m m' k k' z z' x y v e = drawn_cell (strip x y 1) (λ _ _. false) f m m m' k k k' z z z' x y v (λ _ _. refl) e (drawn-none (λ _ _. false) f m k z (λ _ _. refl))
 
   -- a drawing and then another, of other cells, where the new word depends on the cell's own word alone
-  pub local-more : (q r s : Cells) (h : ℤ → ℤ → ℕ → ℕ) (m m' m'' : Meaning) (k k' k'' : Keep) (z z' z'' : R)
+  pub local_more : (q r s : Cells) (h : ℤ → ℤ → ℕ → ℕ) (m m' m'' : Meaning) (k k' k'' : Keep) (z z' z'' : R)
       → ((a b : ℤ) → q a b ≡ (r a b || s a b)) → ((a b : ℤ) → s a b ≡ true → r a b ≡ false)
       → Drawn r (λ a b. h a b (m.word a b)) m k z m' k' z' → Drawn s (λ a b. h a b (m'.word a b)) m' k' z' m'' k'' z'' → Drawn q (λ a b. h a b (m.word a b)) m k z m'' k'' z''
-  local-more q r s h m m' m'' k k' k'' z z' z'' split fresh so_far =
+  local_more q r s h m m' m'' k k' k'' z z' z'' split fresh so_far =
       drawn-more q r s _ _ m m' m'' k k' k'' z z' z'' split (λ a b t. ap (h a b) (drawn-word r _ m m' k k' z z' a b so_far (fresh a b t))) so_far
 
   -- what is drawn inside the size is all that is drawn
-  pub drawn-shown : (s r : Cells) (f : Shades) (m m' : Meaning) (k k' : Keep) (z z' : R) (w h : ℕ) → Sound m → w ≡ m.width → h ≡ m.height
+  pub drawn_shown : (s r : Cells) (f : Shades) (m m' : Meaning) (k k' : Keep) (z z' : R) (w h : ℕ) → Sound m → w ≡ m.width → h ≡ m.height
       → ((a b : ℤ) → s a b ≡ (r a b && inside w h a b)) → Drawn s f m k z m' k' z' → Drawn r f m k z m' k' z'
-  drawn-shown s r f m m' k k' z z' w h sound ew eh e =
-      drawn-like s r f m m' k k' z z'
-      (λ a b. opens_inside (s a b) (r a b) _ (m.opens a b) (e a b) (λ o. sound.shut-outside a b (ap (λ w. inside w m.height a b) (sym ew) ∙ ap (λ h. inside w h a b) (sym eh) ∙ o)))
+  drawn_shown s r f m m' k k' z z' w h sound ew eh e =
+      drawn_like s r f m m' k k' z z'
+      (λ a b. opens_inside (s a b) (r a b) _ (m.opens a b) (e a b) (λ o. sound.shut_outside a b (ap (λ w. inside w m.height a b) (sym ew) ∙ ap (λ h. inside w h a b) (sym eh) ∙ o)))
 
 pub at_set : (c : Cells) (x y a b : ℤ) → strip x y 1 a b ≡ true → c a b ≡ c x y
 at_set c x y a b h = let e = at_cell x y a b h in sym (ap (λ a. c a y) e.0 ∙ ap (c a) e.1)

@@ -31,13 +31,13 @@ inside w h x y = spans (pos 0) w x && spans (pos 0) h y
 pub record Sound (m : Meaning) : Type 0 where
   pub wide : m.width ≤ 4096
   pub high : m.height ≤ 4096
-  pub no-column : m.height ≡ 0 → m.width ≡ 0
+  pub no_column : m.height ≡ 0 → m.width ≡ 0
   pub no_row : m.width ≡ 0 → m.height ≡ 0
   pub deep : 1 ≤ m.depth
   pub shallow : m.depth ≤ 16
   pub fits : (x y : ℤ) → m.word x y < 2 ^ m.depth
-  pub blank-outside : (x y : ℤ) → inside m.width m.height x y ≡ false → m.word x y ≡ 0
-  pub shut-outside : (x y : ℤ) → inside m.width m.height x y ≡ false → m.opens x y ≡ false
+  pub blank_outside : (x y : ℤ) → inside m.width m.height x y ≡ false → m.word x y ≡ 0
+  pub shut_outside : (x y : ℤ) → inside m.width m.height x y ≡ false → m.opens x y ≡ false
 
 -- The one way in which a picture changes: each open cell of a region takes a new word, cut to the depth.
 abbrev pub drawn : (ℤ → ℤ → Bool) → (ℤ → ℤ → ℕ) → Meaning → Meaning

@@ -1,4 +1,6 @@
 // What a surface is: a size, a depth, a picture and a set of open cells.
+#![tactic(auto)]
+
 mod lent;
 mod rect;
 mod sameness;

@@ -1,4 +1,6 @@
 // Plays a Windows metafile on a one-bit picture of 576 x 400 cells, and writes the picture as a PBM.
+#![tactic(auto)]
+
 mod failure;
 mod options;
 mod picture;

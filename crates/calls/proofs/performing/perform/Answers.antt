@@ -1,16 +1,16 @@
 use Rattle.std.proofs.Common.{◌≡◌, ◌+◌, [], ◌∷◌, ◌++◌, map, take, vec_items, sym, refl, ap, ◌∙◌, subst, arith, take_all}
 use Rattle.std.proofs.lemmas.List.{take_more, map_push}
 use Rattle.calls.specs.declared.call.MeterCall.TheVariants as act
-use Rattle.calls.proofs.Along.{Along, along-none, along-next, along-performed}
+use Rattle.calls.proofs.Along.{Along, along_none, along_next, along_performed}
 use Rattle.calls.proofs.performing.perform.Goals as goal
 
 pub loop-call-init : goal.loop-call-init
 loop-call-init g c =
-    let made = c.in-ok-replies.ensures in
-    (along-none _ _ _ _ _ _ _ _ made.items, refl, made.len, made.capacity)
+    let made = c.in_ok-replies.ensures in
+    (along_none _ _ _ _ _ _ _ _ made.items, refl, made.len, made.capacity)
 
-pub push-reserved-requires : goal.push-reserved-requires
-push-reserved-requires g c = omega (arith, c.loop-call.invariant.2, c.loop-call.invariant.3)
+pub push_reserved-requires : goal.push_reserved-requires
+push_reserved-requires g c = omega (arith, c.loop-call.invariant.2, c.loop-call.invariant.3)
 
 pub loop-call-preserved : goal.loop-call-preserved
 loop-call-preserved g c =
@@ -20,10 +20,10 @@ loop-call-preserved g c =
     let more : map act.Call (take (c.loop-call.call-index + 1) calls) ≡ map act.Call (take c.loop-call.call-index calls) ++ (act.Call here ∷ [])
     = ap (map act.Call) (take_more calls c.loop-call.call-index here c.loop-call-test.true) ∙ map_push act.Call (take c.loop-call.call-index calls) _
     ∙ ap (λ x. map act.Call (take c.loop-call.call-index calls) ++ (act.Call x ∷ [])) (sym c.call-item.is) in (
-      along-next _ _ _ _ _ _ _ _ _ _ _ _ _ _ _ _ here _ i.0 i.1 c.make.ensures.made more c.push-reserved.ensures.items,
+      along_next _ _ _ _ _ _ _ _ _ _ _ _ _ _ _ _ here _ i.0 i.1 c.make.ensures.made more c.push_reserved.ensures.items,
       c.make.ensures.bytes ∙ i.1,
-      c.push-reserved.ensures.len ∙ ap (λ n. n + 1) i.2,
-      omega (arith, c.push-reserved.ensures.capacity, i.3),
+      c.push_reserved.ensures.len ∙ ap (λ n. n + 1) i.2,
+      omega (arith, c.push_reserved.ensures.capacity, i.3),
     )
 
 pub returns : goal.returns
@@ -35,6 +35,6 @@ returns g c =
     = subst (λ v. Along g.I.Ink.shade c.args.run.now.bytes.now g.S.Surface.means g.S.Surface.keeps g.S.Surface.rest (map act.Call v) c.args.run.now.progress s (vec_items c.loop-call.replies) c.loop-call.run.progress c.loop-call.surface) all c.loop-call.invariant.0 in
     record {
       bytes = c.loop-call.invariant.1;
-      performed = along-performed _ _ _ _ _ _ _ _ _ _ _ (g.S.Surface.sound s).shallow l;
+      performed = along_performed _ _ _ _ _ _ _ _ _ _ _ (g.S.Surface.sound s).shallow l;
       untouched = tt;
     }

@@ -7,14 +7,14 @@ use Rattle.codes.proofs.operation.combine.Goals as goal
 pub returns : goal.returns
 unfolding combined
 returns c =
-    word_is 16 c.choose-3.result (λ k. bit (4 * bit k c.args.pattern + 2 * bit k c.args.source + bit k c.args.picture) c.args.code) c.choose-3.type-inv
+    word_is 16 c.choose-3.result (λ k. bit (4 * bit k c.args.pattern + 2 * bit k c.args.source + bit k c.args.picture) c.args.code) c.choose-3.type_inv
     (λ k h. simp (
       c.choose-3.ensures,
       c.choose-2.ensures,
       c.choose.ensures,
       c.choose-both.ensures,
-      c.choose-source-only.ensures,
-      c.choose-picture-only.ensures,
+      c.choose-source_only.ensures,
+      c.choose-picture_only.ensures,
       c.choose-neither.ensures,
       c.spread.ensures,
       c.spread-2.ensures,

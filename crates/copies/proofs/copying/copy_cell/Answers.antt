@@ -4,14 +4,14 @@ use Rattle.surface.proofs.Strokes.{drawn-one}
 use Rattle.copies.proofs.Sources.{strip_here, near_fits, combine_is}
 use Rattle.copies.proofs.copying.copy_cell.Goals as goal
 
-pub overflow-add-x : goal.overflow-add-x
-overflow-add-x g c =
+pub overflow_add-x : goal.overflow_add-x
+overflow_add-x g c =
     let f = c.ranges.x in
     let d : SFits w32 c.args.shift.dx = search rules in
     simp to_z-of_z (near_fits _ (c.requires.across c.args.x c.args.y (strip_here c.args.x c.args.y)))
 
-pub overflow-add-y : goal.overflow-add-y
-overflow-add-y g c =
+pub overflow_add-y : goal.overflow_add-y
+overflow_add-y g c =
     let f = c.ranges.y in
     let d : SFits w32 c.args.shift.dy = search rules in
     simp to_z-of_z (near_fits _ (c.requires.down c.args.x c.args.y (strip_here c.args.x c.args.y)))

@@ -1,7 +1,7 @@
 use Rattle.std.proofs.Common.{pos, ◌<ℤ◌, arith, w32, SFits, rules}
 use Rattle.std.proofs.lemmas.Int.{ints, to_z-of_z}
 use Rattle.surface.specs.Rects.{holds}
-use Rattle.surface.proofs.Strokes.{drawn-none, drawn-like, swept}
+use Rattle.surface.proofs.Strokes.{drawn-none, drawn_like, swept}
 use Rattle.copies.proofs.Sources.{reached_part}
 use Rattle.drawing.proofs.Rows.{rect-none, rect-all}
 use Rattle.copies.proofs.Sweeps.{up_none, rect-row, up_row, up_all, le_z_true, le_z_false, lt_z_false, down_step, up_step}
@@ -10,8 +10,8 @@ use Rattle.copies.proofs.copying.copy_rect.Goals as goal
 pub down-init : goal.down-init
 down-init g c = (omega (arith, ints), drawn-none _ _ _ _ _ (λ a b. rect-none c.args.area _ a b (omega (arith, ints))))
 
-pub copy-row-requires : goal.copy-row-requires
-copy-row-requires g c =
+pub copy_row-requires : goal.copy_row-requires
+copy_row-requires g c =
     let t : SFits w32 c.args.area.bottom = search rules in
     reached_part (holds c.args.area) _ _ (λ a b. rect-row c.args.area _ a b c.down.invariant.0 (simp to_z-of_z at c.down-test.true)) c.requires
 
@@ -22,14 +22,14 @@ down-preserved g c =
     let t : SFits w32 c.args.area.bottom = search rules in (
       omega (arith, ints),
       down_step _ _ _ _ _ _ _ _ _ _ _ _ c.args.area _ _ c.down.invariant.0 (simp to_z-of_z at c.down-test.true) (omega (arith, ints)) (le_z_true _ _ (simp to_z-of_z at c.if-shift-ge0.true))
-          c.down.invariant.1 c.copy-row.ensures,
+          c.down.invariant.1 c.copy_row.ensures,
     )
 
 pub up-init : goal.up-init
 up-init g c = (omega (arith, ints), drawn-none _ _ _ _ _ (λ a b. up_none c.args.area _ a b (omega (arith, ints))))
 
-pub copy-row-requires-in-up : goal.copy-row-requires-in-up
-copy-row-requires-in-up g c =
+pub copy_row-requires-in-up : goal.copy_row-requires-in-up
+copy_row-requires-in-up g c =
     let t : SFits w32 c.args.area.top = search rules in
     reached_part (holds c.args.area) _ _ (λ a b. up_row c.args.area _ _ a b c.up.invariant.0 (simp to_z-of_z at c.up-test.true) (omega (arith, ints))) c.requires
 
@@ -40,15 +40,15 @@ up-preserved g c =
     let t : SFits w32 c.args.area.top = search rules in
     let n : c.args.shift.dy <ℤ pos 0 = le_z_false _ _ (simp to_z-of_z at c.if-shift-ge0.false) in (
       omega (arith, ints),
-      up_step _ _ _ _ _ _ _ _ _ _ _ _ c.args.area _ _ c.up.invariant.0 (omega (arith, ints)) (omega (arith, ints)) (omega (arith, ints)) c.up.invariant.1 c.copy-row-in-up.ensures,
+      up_step _ _ _ _ _ _ _ _ _ _ _ _ c.args.area _ _ c.up.invariant.0 (omega (arith, ints)) (omega (arith, ints)) (omega (arith, ints)) c.up.invariant.1 c.copy_row-in-up.ensures,
     )
 
 pub returns-after-down : goal.returns-after-down
 returns-after-down g c =
     let t : SFits w32 c.args.area.bottom = search rules in
-    drawn-like _ _ _ _ _ _ _ _ _ (λ a b. swept _ _ _ (rect-all c.args.area _ a b (simp to_z-of_z at c.down-test.false))) c.down.invariant.1
+    drawn_like _ _ _ _ _ _ _ _ _ (λ a b. swept _ _ _ (rect-all c.args.area _ a b (simp to_z-of_z at c.down-test.false))) c.down.invariant.1
 
 pub returns-after-up : goal.returns-after-up
 returns-after-up g c =
     let t : SFits w32 c.args.area.top = search rules in
-    drawn-like _ _ _ _ _ _ _ _ _ (λ a b. swept _ _ _ (up_all c.args.area _ a b (lt_z_false _ _ (simp to_z-of_z at c.up-test.false)))) c.up.invariant.1
+    drawn_like _ _ _ _ _ _ _ _ _ (λ a b. swept _ _ _ (up_all c.args.area _ a b (lt_z_false _ _ (simp to_z-of_z at c.up-test.false)))) c.up.invariant.1

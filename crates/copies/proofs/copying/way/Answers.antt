@@ -3,15 +3,15 @@ use Rattle.std.proofs.lemmas.Int.{to_z-of_z}
 use Rattle.copies.proofs.Sources.{parts, way_fits}
 use Rattle.copies.proofs.copying.way.Goals as goal
 
-pub overflow-sub-result : goal.overflow-sub-result
-overflow-sub-result c =
+pub overflow_sub-result : goal.overflow_sub-result
+overflow_sub-result c =
     let p = parts c.args.area c.args.source c.requires in
     let f : SFits w32 c.args.source.x = search rules in
     let a : SFits w32 c.args.area.x = search rules in
     simp to_z-of_z (way_fits c.args.source.x c.args.area.x p.px p.x)
 
-pub overflow-sub-result-2 : goal.overflow-sub-result-2
-overflow-sub-result-2 c =
+pub overflow_sub-result-2 : goal.overflow_sub-result-2
+overflow_sub-result-2 c =
     let p = parts c.args.area c.args.source c.requires in
     let f : SFits w32 c.args.source.y = search rules in
     let a : SFits w32 c.args.area.y = search rules in

@@ -3,14 +3,14 @@ use Rattle.std.proofs.lemmas.Int.{ints, to_z-of_z}
 use Rattle.drawing.proofs.Cuts.{apart_fits, breadth_is}
 use Rattle.drawing.proofs.filling.breadth.Goals as goal
 
-pub overflow-sub-area : goal.overflow-sub-area
-overflow-sub-area c =
+pub overflow_sub-area : goal.overflow_sub-area
+overflow_sub-area c =
     let fl : SFits w32 c.args.area.left = search rules in
     let fr : SFits w32 c.args.area.right = search rules in
     simp to_z-of_z (apart_fits _ _ fl fr c.requires.left c.requires.right)
 
-pub overflow-cast-result : goal.overflow-cast-result
-overflow-cast-result c =
+pub overflow_cast-result : goal.overflow_cast-result
+overflow_cast-result c =
     let fl : SFits w32 c.args.area.left = search rules in
     let fr : SFits w32 c.args.area.right = search rules in
     let fd = apart_fits c.args.area.left c.args.area.right fl fr c.requires.left c.requires.right in

@@ -1,6 +1,6 @@
 use Rattle.std.proofs.Common.{arith, w32, SFits, rules}
 use Rattle.std.proofs.lemmas.Int.{ints, to_z-of_z}
-use Rattle.surface.proofs.Strokes.{drawn-none, drawn-like, swept}
+use Rattle.surface.proofs.Strokes.{drawn-none, drawn_like, swept}
 use Rattle.drawing.proofs.Rows.{rect-none, rect-all, fill_step}
 use Rattle.drawing.proofs.filling.fill_rect.Goals as goal
 
@@ -20,4 +20,4 @@ loop-y-preserved g c =
 pub returns : goal.returns
 returns g c =
     let fb : SFits w32 c.args.area.bottom = search rules in
-    drawn-like _ _ _ _ _ _ _ _ _ (λ a b. swept _ _ _ (rect-all c.args.area _ a b (simp to_z-of_z at c.loop-y-test.false))) c.loop-y.invariant.1
+    drawn_like _ _ _ _ _ _ _ _ _ (λ a b. swept _ _ _ (rect-all c.args.area _ a b (simp to_z-of_z at c.loop-y-test.false))) c.loop-y.invariant.1

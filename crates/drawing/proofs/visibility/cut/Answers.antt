@@ -22,8 +22,8 @@ returns c =
     let e2 = simp to_z-of_z at c.from-2.ensures in
     let e3 = simp to_z-of_z at c.from-3.ensures in
     let s1 : SFits w64 (c.from.result +ℤ c.from-2.result) = wide _ _ _ _ c.ranges.start c.ranges.length e1 e2 in
-    let high = simp to_z-of_z at c.clamp-last.ensures.upper-bound in
-    let g3 : SFits w32 c.clamp-last.result = clamped_fits _ _ c.args.size c.ranges.size.fits c.clamp-last.ensures.lower-bound high c.from-4.ensures in
+    let high = simp to_z-of_z at c.clamp-last.ensures.upper_bound in
+    let g3 : SFits w32 c.clamp-last.result = clamped_fits _ _ c.args.size c.ranges.size.fits c.clamp-last.ensures.lower_bound high c.from-4.ensures in
     let p : c.max-2.result ≡ int_max (int_max c.args.start c.args.low) (pos 0) = simp to_z-of_z at c.max-2.ensures.value ∙ ap (λ u. int_max u (pos 0)) (simp to_z-of_z at c.max.ensures.value) in
     let q : c.clamp-last.result ≡ int_max (pos 0) (int_min (int_min (c.args.start +ℤ c.args.length) c.args.high) (pos c.args.size)) =
     simp to_z-of_z at c.clamp-last.ensures.value
@@ -34,6 +34,6 @@ returns c =
     ∙ ap (λ u. int_max (pos 0) (int_min (int_min (u +ℤ c.args.length) c.args.high) (pos c.args.size))) e1 in
     simp to_z-of_z (record {
       places = cut_is c.args.start (c.args.start +ℤ c.args.length) c.args.low c.args.high c.max-2.result c.clamp-last.result c.args.size p q;
-      first = c.max-2.ensures.other-bound;
-      end = (c.clamp-last.ensures.lower-bound, within_is _ _ _ high c.from-4.ensures);
+      first = c.max-2.ensures.other_bound;
+      end = (c.clamp-last.ensures.lower_bound, within_is _ _ _ high c.from-4.ensures);
     })

@@ -7,20 +7,20 @@ use Rattle.examples.proofs.worked.worked_examples.Goals as goal
 pub returns : goal.returns
 unfolding combined mixed of_bits
 returns c = record {
-  all-rows = refl;
-  all-rows-called = c.combine.ensures;
+  all_rows = refl;
+  all_rows_called = c.combine.ensures;
   exclusive = any_pattern;
-  exclusive-called = c.combine-2.ensures;
-  line-exclusive = refl;
-  line-exclusive-called = c.mix.ensures;
+  exclusive_called = c.combine-2.ensures;
+  line_exclusive = refl;
+  line_exclusive_called = c.mix.ensures;
   gentle = line_listed _ _ _ refl;
-  gentle-called = c.line-gently.ensures;
+  gentle_called = c.line_gently.ensures;
   tied = line_listed _ _ _ refl;
-  tied-called = c.line-with-ties.ensures;
-  memory = c.paint-block.ensures.memory;
-  bounds = c.paint-block.ensures.bounds;
-  rows = c.paint-block.ensures.rows;
-  copied-right = c.copy-right.ensures;
-  copied-left = c.copy-left.ensures;
-  planes = c.set-in-planes.ensures;
+  tied_called = c.line_with_ties.ensures;
+  memory = c.paint_block.ensures.memory;
+  bounds = c.paint_block.ensures.bounds;
+  rows = c.paint_block.ensures.rows;
+  copied_right = c.copy_right.ensures;
+  copied_left = c.copy_left.ensures;
+  planes = c.set_in_planes.ensures;
 }

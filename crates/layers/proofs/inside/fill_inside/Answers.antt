@@ -17,7 +17,7 @@ returns g c =
     let last = c.fill.new.self in
     let left = c.fill.ensures.rest in
     -- the loan ends at the value behind the same reference
-    let name : c.into-below.result.name ≡ fence.below.name = ap (λ r. r.name) c.into-below.ensures ∙ ap (λ t. t.1.0) left in
+    let name : c.into_below.result.ghost_name ≡ fence.below.ghost_name = ap (λ r. r.ghost_name) c.into_below.ensures ∙ ap (λ t. t.1.0) left in
     let picture = below_fence fence.rect (m fence.below.now) (m last.below.now) cells (λ _ _. c.args.v)
     (g.S.Surface.stays _ _ (ap (λ t. t.1.1) left))
     (subst (λ r. fenced r (m last.below.now) ≡ drawn cells (λ _ _. c.args.v) (fenced fence.rect (m fence.below.now))) (ap (λ t. t.0) left) (simp to_z-of_z at c.fill.ensures.picture)) in

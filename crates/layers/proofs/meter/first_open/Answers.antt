@@ -4,19 +4,19 @@ use Rattle.std.proofs.lemmas.Int.{to_z-of_z}
 use Rattle.layers.proofs.Rowwise.{shut_up}
 use Rattle.layers.proofs.meter.first_open.Goals as goal
 
-pub returns-then-is-open : goal.returns-then-is-open
-returns-then-is-open g c =
+pub returns-then-is_open : goal.returns-then-is_open
+returns-then-is_open g c =
     let fy = c.ranges.y in
     let ff = c.ranges.from in
     record {
       low = omega (arith, ints);
       high = omega (arith, ints);
-      here = sym (simp to_z-of_z at c.if-is-open.ensures);
+      here = sym (simp to_z-of_z at c.if-is_open.ensures);
       others = simp to_z-of_z at c.loop-x.invariant.1;
     }
 
 pub loop-x-preserved : goal.loop-x-preserved
-loop-x-preserved g c = (omega (arith, ints), shut_up _ _ _ _ (omega (arith, ints)) c.loop-x.invariant.1 (sym c.if-is-open.ensures))
+loop-x-preserved g c = (omega (arith, ints), shut_up _ _ _ _ (omega (arith, ints)) c.loop-x.invariant.1 (sym c.if-is_open.ensures))
 
 pub returns : goal.returns
 returns g c =

@@ -6,20 +6,20 @@ use Rattle.surface.specs.Meaning.{spans}
 use Rattle.layers.proofs.Rowwise.{reached-none, reached-some, row_small}
 use Rattle.layers.proofs.meter.reached.Goals as goal
 
-pub returns-in-err-first : goal.returns-in-err-first
-returns-in-err-first g c =
+pub returns-in_err-first : goal.returns-in_err-first
+returns-in_err-first g c =
     let fx = c.ranges.x in
     let fy = c.ranges.y in
     let fw : SFits w32 c.from.result = search rules in
     let m = g.S.Surface.means c.args.below.now in
-    let none = simp to_z-of_z at c.in-err-first.ensures in
+    let none = simp to_z-of_z at c.in_err-first.ensures in
     let e : c.from.result ≡ pos m.width = c.from.ensures ∙ ap pos c.width.ensures in
     let part : (z : ℤ) → spans c.cut-part.result.start c.cut-part.result.count z ≡ (spans c.args.x c.args.n z && (le_z (pos 0) z && lt_z z (pos m.width))) = simp e at (simp to_z-of_z at c.cut-part.ensures.cells) in
-    rw c.from-residual.ensures (reached-none m (g.S.Surface.sound _) c.args.x c.args.y c.args.n _ _ part _ _ (omega (arith, ints)) (omega (arith, ints)) none)
+    rw c.from_residual.ensures (reached-none m (g.S.Surface.sound _) c.args.x c.args.y c.args.n _ _ part _ _ (omega (arith, ints)) (omega (arith, ints)) none)
 
-pub overflow-add-result-2 : goal.overflow-add-result-2
-overflow-add-result-2 g c =
-    let first = c.in-ok-first.ensures in
+pub overflow_add-result-2 : goal.overflow_add-result-2
+overflow_add-result-2 g c =
+    let first = c.in_ok-first.ensures in
     let small = row_small _ (g.S.Surface.sound _) _ _ first.here in
     omega (arith, ints)
 
@@ -29,13 +29,13 @@ returns g c =
     let fx = c.ranges.x in
     let fy = c.ranges.y in
     let fw : SFits w32 c.from.result = search rules in
-    let ff : SFits w32 c.in-ok-first.first = search rules in
-    let fl : SFits w32 c.in-ok-last.last = search rules in
+    let ff : SFits w32 c.in_ok-first.first = search rules in
+    let fl : SFits w32 c.in_ok-last.last = search rules in
     let m = g.S.Surface.means c.args.below.now in
-    let first = simp to_z-of_z at c.in-ok-first.ensures in
-    let last = simp to_z-of_z at c.in-ok-last.ensures in
+    let first = simp to_z-of_z at c.in_ok-first.ensures in
+    let last = simp to_z-of_z at c.in_ok-last.ensures in
     let small = row_small _ (g.S.Surface.sound _) _ _ first.here in
-    let fl1 : SFits w32 (c.in-ok-last.last +ℤ pos 1) = omega (arith, ints) in
+    let fl1 : SFits w32 (c.in_ok-last.last +ℤ pos 1) = omega (arith, ints) in
     let fy1 : SFits w32 (c.args.y +ℤ pos 1) = omega (arith, ints) in
     let e : c.from.result ≡ pos m.width = c.from.ensures ∙ ap pos c.width.ensures in
     let part : (z : ℤ) → spans c.cut-part.result.start c.cut-part.result.count z ≡ (spans c.args.x c.args.n z && (le_z (pos 0) z && lt_z z (pos m.width))) = simp e at (simp to_z-of_z at c.cut-part.ensures.cells) in

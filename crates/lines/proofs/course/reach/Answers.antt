@@ -1,6 +1,6 @@
 use Rattle.std.proofs.Common.{pos, ◌+ℤ◌, ◌-ℤ◌, w64, SFits, rules}
 use Rattle.std.proofs.lemmas.Int.{to_z-of_z}
-use Rattle.lines.proofs.Traces.{falling, rising, gap-fits, more-fits, down-first, down-last, up_first, up-last}
+use Rattle.lines.proofs.Traces.{falling, rising, gap_fits, more-fits, down-first, down-last, up_first, up_last}
 use Rattle.lines.proofs.course.reach.Goals as goal
 
 pub returns-then-b-a : goal.returns-then-b-a
@@ -15,8 +15,8 @@ returns-then-b-a c =
     let s : SFits w64 c.from-start.result = search rules in
     let h : SFits w64 c.from.result = search rules in
     let l : SFits w64 c.from-then-b-a.result = search rules in
-    let gh = gap-fits _ _ c.from-start.result c.from.result fa fh ea eh in
-    let gl = gap-fits _ _ c.from-start.result c.from-then-b-a.result fa fl ea el in
+    let gh = gap_fits _ _ c.from-start.result c.from.result fa fh ea eh in
+    let gl = gap_fits _ _ c.from-start.result c.from-then-b-a.result fa fl ea el in
     let mh = more-fits _ _ c.from-start.result c.from.result fa fh ea eh in
     let ml = more-fits _ _ c.from-start.result c.from-then-b-a.result fa fl ea el in
     let first = simp to_z-of_z at c.limit.ensures.below in
@@ -40,13 +40,13 @@ returns c =
     let s : SFits w64 c.from-start.result = search rules in
     let l : SFits w64 c.from-2.result = search rules in
     let h : SFits w64 c.from-3.result = search rules in
-    let gl = gap-fits _ _ c.from-2.result c.from-start.result fl fa el ea in
-    let gh = gap-fits _ _ c.from-3.result c.from-start.result fh fa eh ea in
+    let gl = gap_fits _ _ c.from-2.result c.from-start.result fl fa el ea in
+    let gh = gap_fits _ _ c.from-3.result c.from-start.result fh fa eh ea in
     let first = simp to_z-of_z at c.limit-2.ensures.below in
     let last = simp to_z-of_z at c.limit-3.ensures.above in
     let up = simp to_z-of_z at c.if-b-a.false in
     record {
       places = λ i k t. let f = rising c.args.a c.args.b c.args.low c.args.high i up t in
-          (first i (up_first _ _ _ _ i el ea f.0), last i k (up-last _ _ _ _ i eh ea f.1));
+          (first i (up_first _ _ _ _ i el ea f.0), last i k (up_last _ _ _ _ i eh ea f.1));
       end = c.limit-3.ensures.most;
     }

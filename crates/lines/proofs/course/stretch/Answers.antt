@@ -11,8 +11,8 @@ returns-then-down-across c =
     let ty : SFits w32 c.args.to.y = search rules in
     let rl : SFits w32 c.args.rect.left = search rules in
     let rr : SFits w32 c.args.rect.right = search rules in
-    let d = simp to_z-of_z at c.abs-diff-across.ensures in
-    let e = simp to_z-of_z at c.abs-diff-down.ensures in
+    let d = simp to_z-of_z at c.abs_diff-across.ensures in
+    let e = simp to_z-of_z at c.abs_diff-down.ensures in
     let r = simp to_z-of_z at c.reach.ensures in
     record {
       places = λ i v h t. r.places i (omega arith) (along_across c.args.from c.args.to c.args.rect i v (omega arith) t);
@@ -27,8 +27,8 @@ returns-else-down-across c =
     let ty : SFits w32 c.args.to.y = search rules in
     let rt : SFits w32 c.args.rect.top = search rules in
     let rb : SFits w32 c.args.rect.bottom = search rules in
-    let d = simp to_z-of_z at c.abs-diff-across.ensures in
-    let e = simp to_z-of_z at c.abs-diff-down.ensures in
+    let d = simp to_z-of_z at c.abs_diff-across.ensures in
+    let e = simp to_z-of_z at c.abs_diff-down.ensures in
     let r = simp to_z-of_z at c.reach-else-down-across.ensures in
     record {
       places = λ i v h t. r.places i (omega arith) (along_down c.args.from c.args.to c.args.rect i v (omega arith) t);

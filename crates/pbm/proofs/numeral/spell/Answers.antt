@@ -6,8 +6,8 @@ use Rattle.pbm.proofs.numeral.spell.Goals as goal
 pub loop-rest-init : goal.loop-rest-init
 loop-rest-init c = (omega arith, refl, front-short c.args.number (omega arith), sym (append-nil (front c.args.number)))
 
-pub overflow-sub-first : goal.overflow-sub-first
-overflow-sub-first c = omega (arith, front_length c.loop-rest.rest (omega arith))
+pub overflow_sub-first : goal.overflow_sub-first
+overflow_sub-first c = omega (arith, front_length c.loop-rest.rest (omega arith))
 
 pub loop-rest-preserved : goal.loop-rest-preserved
 loop-rest-preserved c =

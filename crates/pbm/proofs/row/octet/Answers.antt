@@ -7,16 +7,16 @@ pub loop-k-init : goal.loop-k-init
 unfolding binary
 loop-k-init g c = refl
 
-pub overflow-mul-byte : goal.overflow-mul-byte
-overflow-mul-byte g c =
+pub overflow_mul-byte : goal.overflow_mul-byte
+overflow_mul-byte g c =
     let m = g.S.Surface.means c.args.surface.now in
     let f : ℕ → ℕ = λ k. pixel m c.args.y (8 * c.args.i + k) in
     let s = binary_small f (λ k. pixel-bit m c.args.y (8 * c.args.i + k)) c.loop-k.k (omega arith) in
     let b : c.loop-k.byte < 128 = omega (arith, c.loop-k.invariant) in
     search rules
 
-pub overflow-add-byte : goal.overflow-add-byte
-overflow-add-byte g c =
+pub overflow_add-byte : goal.overflow_add-byte
+overflow_add-byte g c =
     let m = g.S.Surface.means c.args.surface.now in
     let f : ℕ → ℕ = λ k. pixel m c.args.y (8 * c.args.i + k) in
     let s = binary_small f (λ k. pixel-bit m c.args.y (8 * c.args.i + k)) c.loop-k.k (omega arith) in

@@ -3,8 +3,8 @@ use Rattle.surface.specs.Rects.{more}
 use Rattle.layers.proofs.Meters.{grown_joined, solid-joined}
 use Rattle.layers.proofs.meter.MeterSurface.fill.Goals as goal
 
-pub invariant-of-self : goal.invariant-of-self
-invariant-of-self g c = (rw c.grown-self.ensures (solid-joined _ _ _ c.args.self.now.full c.reached-more.ensures), tt)
+pub invariant_of-self : goal.invariant_of-self
+invariant_of-self g c = record { full = rw c.grown-self.ensures (solid-joined _ _ _ c.args.self.now.full c.reached-more.ensures) }
 
 pub returns : goal.returns
 returns g c =

@@ -8,6 +8,6 @@ returns-in-BitBlt g c =
     let fy : SFits w16 c.in-BitBlt.y = search rules in
     let fw : SFits w16 c.in-BitBlt.width = search rules in
     let fh : SFits w16 c.in-BitBlt.height = search rules in
-    let gx : SFits w16 c.in-BitBlt.source-x = search rules in
-    let gy : SFits w16 c.in-BitBlt.source-y = search rules in
-    simp c.in-BitBlt.is (simp to_z-of_z at c.bit-blt.ensures)
+    let gx : SFits w16 c.in-BitBlt.source_x = search rules in
+    let gy : SFits w16 c.in-BitBlt.source_y = search rules in
+    simp c.in-BitBlt.is (simp to_z-of_z at c.bit_blt.ensures)

@@ -4,10 +4,10 @@ use Rattle.playback.specs.declared.objects.Slot.TheVariants.{Empty}
 use Rattle.playback.proofs.Lowest.{lowest_more, lowest-found}
 use Rattle.playback.proofs.objects.ObjectTable.free.Goals as goal
 
-pub returns-then-is-vacant : goal.returns-then-is-vacant
-returns-then-is-vacant c =
+pub returns-then-is_vacant : goal.returns-then-is_vacant
+returns-then-is_vacant c =
     let below : c.loop-i.i < size c.args.self.now = omega (arith, c.size-size.ensures.value) in
-    sym (lowest-found _ _ _ c.loop-i.invariant (sym c.if-is-vacant.ensures) below)
+    sym (lowest-found _ _ _ c.loop-i.invariant (sym c.if-is_vacant.ensures) below)
 
 pub loop-i-preserved : goal.loop-i-preserved
 loop-i-preserved c =

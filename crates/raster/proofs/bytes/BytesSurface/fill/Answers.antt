@@ -4,7 +4,7 @@ use Rattle.surface.specs.Meaning.{spans}
 use Rattle.surface.specs.Rects.Kept.{still}
 use Rattle.raster.specs.Bits.{among}
 use Rattle.raster.specs.Layout.{has-row, row-there}
-use Rattle.raster.proofs.BytePictures.{rewritten-row, rewritten-none, bytewise-picture, bytewise-spared}
+use Rattle.raster.proofs.BytePictures.{rewritten_row, rewritten_none, bytewise-picture, bytewise_spared}
 use Rattle.raster.proofs.bytes.BytesSurface.fill.Goals as goal
 
 pub returns-in-Some : goal.returns-in-Some
@@ -18,14 +18,14 @@ returns-in-Some c =
     let same =
     subst (λ z. (k : ℕ) → k < w → spans z c.args.n (pos k) ≡ among c.clip-from.result.0 c.clip-from.result.1 k)
     (to_z-of_z w32 c.args.x c.ranges.x) c.clip-from.ensures.same in
-    let d = rewritten-row w h m _ _ _ _ c.args.v _ _ _ r.0 r.1 c.clip-from.ensures.order c.clip-from.ensures.inside same (c.fill.ensures.after (λ y e. e)) in
-    record { picture = bytewise-picture w h m _ _ _ d; kept = still; rest = bytewise-spared w h m _ _ _ _ d; memory = d; lender = refl }
+    let d = rewritten_row w h m _ _ _ _ c.args.v _ _ _ r.0 r.1 c.clip-from.ensures.order c.clip-from.ensures.inside same (c.fill.ensures.after (λ y e. e)) in
+    record { picture = bytewise-picture w h m _ _ _ d; kept = still; rest = bytewise_spared w h m _ _ _ _ d; memory = d; lender = refl }
 
-pub returns-in-default : goal.returns-in-default
-returns-in-default c =
+pub returns-in_default : goal.returns-in_default
+returns-in_default c =
     let w = c.args.self.now.size.width in
     let h = c.args.self.now.size.height in
     let m = c.args.self.now.memory.now in
-    let r = subst (λ z. has-row h (row-there w (length m)) z ≡ false) (to_z-of_z w32 c.args.y c.ranges.y) c.in-default.ensures in
-    let d = rewritten-none w h m c.args.x c.args.y c.args.n c.args.v r in
-    record { picture = bytewise-picture w h m m _ c.args.v d; kept = still; rest = bytewise-spared w h m _ _ _ _ d; memory = d; lender = refl }
+    let r = subst (λ z. has-row h (row-there w (length m)) z ≡ false) (to_z-of_z w32 c.args.y c.ranges.y) c.in_default.ensures in
+    let d = rewritten_none w h m c.args.x c.args.y c.args.n c.args.v r in
+    record { picture = bytewise-picture w h m m _ c.args.v d; kept = still; rest = bytewise_spared w h m _ _ _ _ d; memory = d; lender = refl }

@@ -6,7 +6,7 @@ use Rattle.raster.specs.Bits.{among}
 use Rattle.raster.specs.Layout.{has-row}
 use Rattle.raster.specs.Packing.{stride}
 use Rattle.raster.specs.Planar.{plane, planes_there, Planed}
-use Rattle.raster.proofs.PlanePictures.{planed_at, planes-row, planes-none, planar-picture, planar-spared}
+use Rattle.raster.proofs.PlanePictures.{planed_at, planes-row, planes-none, planar-picture, planar_spared}
 use Rattle.raster.proofs.planes.PlanesSurface.fill.Goals as goal
 
 pub returns-in-Some : goal.returns-in-Some
@@ -20,15 +20,15 @@ returns-in-Some c =
     let same =
     subst (λ z. (k : ℕ) → k < w → spans z c.args.n (pos k) ≡ among c.clip-from.result.0 c.clip-from.result.1 k)
     (to_z-of_z w32 c.args.x c.ranges.x) c.clip-from.ensures.same in
-    let p = planed_at c.fill-planes.ensures (omega (arith, mul_left_comm h 8 (stride w))) (omega arith) in
-    let d = planes-row w h m _ _ _ _ c.args.v _ _ _ r.0 r.1 c.clip-from.ensures.inside same c.fill-planes.auto.memory p in
-    record { picture = planar-picture w h m _ _ _ d; kept = still; rest = planar-spared w h m _ _ _ _ d; memory = d; lender = refl }
+    let p = planed_at c.fill_planes.ensures (omega (arith, mul_left_comm h 8 (stride w))) (omega arith) in
+    let d = planes-row w h m _ _ _ _ c.args.v _ _ _ r.0 r.1 c.clip-from.ensures.inside same c.fill_planes.auto.memory p in
+    record { picture = planar-picture w h m _ _ _ d; kept = still; rest = planar_spared w h m _ _ _ _ d; memory = d; lender = refl }
 
-pub returns-in-default : goal.returns-in-default
-returns-in-default c =
+pub returns-in_default : goal.returns-in_default
+returns-in_default c =
     let w = c.args.self.now.size.width in
     let h = c.args.self.now.size.height in
     let m = c.args.self.now.memory.now in
-    let r = subst (λ z. has-row h (planes_there w h m) z ≡ false) (to_z-of_z w32 c.args.y c.ranges.y) c.in-default.ensures in
+    let r = subst (λ z. has-row h (planes_there w h m) z ≡ false) (to_z-of_z w32 c.args.y c.ranges.y) c.in_default.ensures in
     let d = planes-none w h m c.args.x c.args.y c.args.n c.args.v r in
-    record { picture = planar-picture w h m m _ c.args.v d; kept = still; rest = planar-spared w h m _ _ _ _ d; memory = d; lender = refl }
+    record { picture = planar-picture w h m m _ c.args.v d; kept = still; rest = planar_spared w h m _ _ _ _ d; memory = d; lender = refl }

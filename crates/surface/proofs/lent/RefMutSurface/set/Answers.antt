@@ -7,4 +7,4 @@ returns g c =
     let fx = c.ranges.x in
     let fy = c.ranges.y in
     let e = simp to_z-of_z at c.set.ensures in
-    record { picture = e.picture; kept = e.kept; rest = ap (λ t. (c.args.self.now.name, t)) e.rest }
+    record { picture = e.picture; kept = e.kept; rest = ap (λ t. (c.args.self.now.ghost_name, t)) e.rest }
