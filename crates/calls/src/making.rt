@@ -12,7 +12,7 @@ use surface::Surface;
 // Makes one call.
 pub(crate) fn make<S: Surface, I: Ink>(surface: &mut S, run: &mut Run<'_>, call: &Call<I>) -> Reply
     ensures bytes { run.new.bytes.now ≡ run.old.bytes.now }
-    ensures made { Made means keeps rest shade run.old.bytes.now run.old.progress surface.old call.now result run.new.progress surface.new }
+    ensures made { Made S.means S.keeps S.rest I.shade run.old.bytes.now run.old.progress surface.old call.now result run.new.progress surface.new }
 {
     match call {
         Call::Step => Reply::Step(run.step(surface)),

@@ -13,7 +13,7 @@ use surface::Surface;
 // Makes one call over a meter, or clears it.
 fn act<S: Surface, I: Ink>(meter: &mut Meter<S>, run: &mut Run<'_>, call: &MeterCall<I>) -> Reply
     ensures bytes { run.new.bytes.now ≡ run.old.bytes.now }
-    ensures acted { Acted means rest shade run.old.bytes.now run.old.progress meter.old call.now result run.new.progress meter.new }
+    ensures acted { Acted S.means S.rest I.shade run.old.bytes.now run.old.progress meter.old call.now result run.new.progress meter.new }
 {
     match call {
         MeterCall::Call(call) => make(meter, run, call),
@@ -33,7 +33,7 @@ pub fn perform_metered<S: Surface, I: Ink>(
     heap: Global,
 ) -> Result<Vec<Reply>, AllocError>
     ensures bytes { run.new.bytes.now ≡ run.old.bytes.now }
-    ensures performed { IfOk result (λ v. Metered means rest shade run.old.bytes.now calls.now run.old.progress meter.old.below meter.old.kept v.items run.new.progress meter.new.below meter.new.kept) }
+    ensures performed { IfOk result (λ v. Metered S.means S.rest I.shade run.old.bytes.now calls.now run.old.progress meter.old.below meter.old.kept v.items run.new.progress meter.new.below meter.new.kept) }
     ensures untouched { OnErr result ((run.new.progress ≡ run.old.progress) × (meter.new ≡ meter.old)) }
 {
     let mut replies = Vec::with_capacity(heap, calls.len())?;

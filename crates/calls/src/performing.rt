@@ -18,7 +18,7 @@ pub fn perform<S: Surface, I: Ink>(
     heap: Global,
 ) -> Result<Vec<Reply>, AllocError>
     ensures bytes { run.new.bytes.now ≡ run.old.bytes.now }
-    ensures performed { IfOk result (λ v. Performed means keeps rest shade run.old.bytes.now (map plain calls.now) run.old.progress surface.old v.items run.new.progress surface.new) }
+    ensures performed { IfOk result (λ v. Performed S.means S.keeps S.rest I.shade run.old.bytes.now (map plain calls.now) run.old.progress surface.old v.items run.new.progress surface.new) }
     ensures untouched { OnErr result ((run.new.progress ≡ run.old.progress) × (surface.new ≡ surface.old)) }
 {
     let mut replies = Vec::with_capacity(heap, calls.len())?;
@@ -30,5 +30,5 @@ pub fn perform<S: Surface, I: Ink>(
 
 // The machine that the promises speak of has exactly one outcome for every list of calls, with any ink.
 pub fn machine_is_exact<I: Ink>()
-    ensures { Exactly I.Ink.shade }
+    ensures { Exactly I.shade }
 {}

@@ -14,8 +14,8 @@ pub fn play_whole<S: Surface>(
     heap: Global,
 ) -> Result<Vec<Step>, AllocError>
     ensures bytes { run.new.bytes.now ≡ run.old.bytes.now }
-    ensures played { IfOk result (λ v. PlayedOut means keeps rest run.old.bytes.now run.old.progress surface.old v.items run.new.progress surface.new) }
-    ensures apart { IfOk result (λ v. PlayedApart run.old.bytes.now run.old.progress (means surface.old) v.items run.new.progress (means surface.new)) }
+    ensures played { IfOk result (λ v. PlayedOut S.means S.keeps S.rest run.old.bytes.now run.old.progress surface.old v.items run.new.progress surface.new) }
+    ensures apart { IfOk result (λ v. PlayedApart run.old.bytes.now run.old.progress (S.means surface.old) v.items run.new.progress (S.means surface.new)) }
     ensures untouched { OnErr result ((run.new.progress ≡ run.old.progress) × (surface.new ≡ surface.old)) }
 {
     play(run, surface, heap)

@@ -49,7 +49,7 @@ fn first_of(first: Option<RecordFault>) -> Fault
 
 // Plays a checked file on a surface until it stops.
 fn play_on<S: Surface>(checked: Checked<'_>, surface: &mut S) -> Report
-    ensures { Reported means keeps rest checked.entry.bytes.now checked.entry.first checked.entry.objects surface.old result surface.new }
+    ensures { Reported S.means S.keeps S.rest checked.entry.bytes.now checked.entry.first checked.entry.objects surface.old result surface.new }
 {
     let mut run = start(checked);
     let heard = play_listening(&mut run, surface);

@@ -15,7 +15,7 @@ use surface::{Rect, Surface};
 
 fn copy_cell<S: Surface, I: Ink>(surface: &mut S, x: i32, y: i32, shift: Shift, code: u8, ink: &I)
     requires { Reached (strip x y 1) shift }
-    ensures { Draws means keeps rest (strip x y 1) (copied code (shade ink.now) shift.dx shift.dy)
+    ensures { Draws S.means S.keeps S.rest (strip x y 1) (copied code (I.shade ink.now) shift.dx shift.dy)
         surface.old surface.new }
 {
     let source = S::word(surface, x + shift.dx, y + shift.dy);
@@ -33,7 +33,7 @@ fn copy_row<S: Surface, I: Ink>(
     ink: &I,
 )
     requires { Reached (row area y) shift }
-    ensures { Draws means keeps rest (row area y) (copied code (shade ink.now) shift.dx shift.dy)
+    ensures { Draws S.means S.keeps S.rest (row area y) (copied code (I.shade ink.now) shift.dx shift.dy)
         surface.old surface.new }
 {
     if shift.dx >= 0 {
@@ -50,7 +50,7 @@ fn copy_row<S: Surface, I: Ink>(
 // Copies to a rectangle, row by row, in the order in which no cell is read after it was changed.
 fn copy_rect<S: Surface, I: Ink>(surface: &mut S, area: Rect, shift: Shift, code: u8, ink: &I)
     requires { Reached (holds area) shift }
-    ensures { Draws means keeps rest (holds area) (copied code (shade ink.now) shift.dx shift.dy)
+    ensures { Draws S.means S.keeps S.rest (holds area) (copied code (I.shade ink.now) shift.dx shift.dy)
         surface.old surface.new }
 {
     if shift.dy >= 0 {
@@ -91,7 +91,7 @@ pub fn copy<S: Surface, I: Ink>(
     code: u8,
     ink: &I,
 ) -> Result<(), Refusal>
-    ensures { Performs means keeps rest (copy_task pencil.now area source code (shade ink.now)) result
+    ensures { Performs S.means S.keeps S.rest (copy_task pencil.now area source code (I.shade ink.now)) result
         surface.old surface.new }
 {
     if !in_range(area, source) {

@@ -12,7 +12,7 @@ use surface::{Rect, Surface};
 
 // The word that a raster operation gives every cell, whatever the picture; None where it may give several.
 fn uniform<P: Ink, Q: Ink>(code: u8, pattern: &P, source: &Q) -> Option<u16>
-    ensures { IfSome result (λ v. (a b : ℤ) (d : ℕ) → v ≡ combined code (P.Ink.shade pattern.now a b) (Q.Ink.shade source.now a b) d) }
+    ensures { IfSome result (λ v. (a b : ℤ) (d : ℕ) → v ≡ combined code (P.shade pattern.now a b) (Q.shade source.now a b) d) }
 {
     if depends_on_picture(code) {
         return None;
@@ -48,7 +48,7 @@ fn blend_row<S: Surface, P: Ink, Q: Ink>(
     pattern: &P,
     source: &Q,
 )
-    ensures { Draws S.means S.keeps S.rest (row area y) (blended code (P.Ink.shade pattern.now) (Q.Ink.shade source.now))
+    ensures { Draws S.means S.keeps S.rest (row area y) (blended code (P.shade pattern.now) (Q.shade source.now))
         surface.old surface.new }
 {
     for x in area.left..area.right {
@@ -71,7 +71,7 @@ pub(crate) fn blend_rect<S: Surface, P: Ink, Q: Ink>(
     source: &Q,
 )
     requires { Across 65535 area }
-    ensures { Draws S.means S.keeps S.rest (holds area) (blended code (P.Ink.shade pattern.now) (Q.Ink.shade source.now))
+    ensures { Draws S.means S.keeps S.rest (holds area) (blended code (P.shade pattern.now) (Q.shade source.now))
         surface.old surface.new }
 {
     if let Some(v) = uniform(code, pattern, source) {

@@ -21,7 +21,7 @@ pub fn blend<S: Surface, P: Ink, Q: Ink>(
     source: &Q,
 ) -> Result<(), Refusal>
     ensures { Performs S.means S.keeps S.rest
-        (blend_task pencil.now area code (P.Ink.shade pattern.now) (Q.Ink.shade source.now)) result
+        (blend_task pencil.now area code (P.shade pattern.now) (Q.shade source.now)) result
         surface.old surface.new }
 {
     if !area.in_range() {
@@ -40,7 +40,7 @@ pub fn paint<S: Surface, I: Ink>(
     code: u8,
     ink: &I,
 ) -> Result<(), Refusal>
-    ensures { Performs S.means S.keeps S.rest (paint_task pencil.now area code (shade ink.now)) result
+    ensures { Performs S.means S.keeps S.rest (paint_task pencil.now area code (I.shade ink.now)) result
         surface.old surface.new }
 {
     if depends_on_source(code) {
@@ -59,7 +59,7 @@ pub fn paint_within<S: Surface, I: Ink>(
     ink: &I,
 ) -> Result<(), Refusal>
     ensures drawing { Performs S.means S.keeps S.rest
-        (paint_task (with_clip (overlap pencil.old.clip rect) pencil.old) area code (shade ink.now)) result
+        (paint_task (with_clip (overlap pencil.old.clip rect) pencil.old) area code (I.shade ink.now)) result
         surface.old surface.new }
     ensures pencil { pencil.new ≡ pencil.old }
 {

@@ -15,10 +15,10 @@ use surface::{Rect, Surface};
 
 // The byte of row y in a PBM file of eight columns and four rows.
 fn row_byte<S: Surface>(surface: &S, y: u32) -> u8
-    requires wide { (means surface.now).width ≡ 8 }
-    requires high { (means surface.now).height ≡ 4 }
+    requires wide { (S.means surface.now).width ≡ 8 }
+    requires high { (S.means surface.now).height ≡ 4 }
     requires row { y < 4 }
-    ensures { result ≡ octet (means surface.now) y 0 }
+    ensures { result ≡ octet (S.means surface.now) y 0 }
 {
     let mut line = [0; 1];
     let _ = write_row(surface, y, &mut line);
@@ -27,9 +27,9 @@ fn row_byte<S: Surface>(surface: &S, y: u32) -> u8
 
 // Paints with a meter on top, and gives its rectangle.
 fn paint_metered<S: Surface>(surface: &mut S) -> Option<Rect>
-    ensures picture { means surface.new ≡ painted (means surface.old) }
-    ensures bounds { Grown None (λ x y. block x y && (means surface.old).opens x y) result }
-    ensures rest { rest surface.new ≡ rest surface.old }
+    ensures picture { S.means surface.new ≡ painted (S.means surface.old) }
+    ensures bounds { Grown None (λ x y. block x y && (S.means surface.old).opens x y) result }
+    ensures rest { S.rest surface.new ≡ S.rest surface.old }
 {
     let mut meter = Meter::new(surface);
     let area = Area {

@@ -23,7 +23,7 @@ pub fn play_file<S: Surface>(
     surface: &mut S,
     heap: Global,
 ) -> Result<(Vec<Step>, Counts), AllocError>
-    ensures performed { IfOk result (λ p. Performed means keeps rest checked.entry.bytes.now checked.entry.first checked.entry.objects surface.old p.0.items p.1 surface.new) }
+    ensures performed { IfOk result (λ p. Performed S.means S.keeps S.rest checked.entry.bytes.now checked.entry.first checked.entry.objects surface.old p.0.items p.1 surface.new) }
     ensures untouched { OnErr result (surface.new ≡ surface.old) }
 {
     let mut run = start(checked);

@@ -15,7 +15,7 @@ use surface::{Rect, Surface};
 
 // Draws one cell with a pen, if it lies in a rectangle.
 fn dot<S: Surface>(surface: &mut S, rect: Rect, at: Point, mode: LineMode, pen: u16)
-    ensures { Draws means keeps rest (λ a b. strip at.x at.y 1 a b && holds rect a b) (mixing mode pen)
+    ensures { Draws S.means S.keeps S.rest (λ a b. strip at.x at.y 1 a b && holds rect a b) (mixing mode pen)
         surface.old surface.new }
 {
     if rect.has(at.x, at.y) {
@@ -27,7 +27,7 @@ fn dot<S: Surface>(surface: &mut S, rect: Rect, at: Point, mode: LineMode, pen: 
 // Draws the cells of a line that lie in a rectangle.
 fn trace<S: Surface>(surface: &mut S, rect: Rect, from: Point, to: Point, mode: LineMode, pen: u16)
     requires { (placed from && placed to) ≡ true }
-    ensures { Draws means keeps rest (λ a b. traced from to (longer from to) a b && holds rect a b) (mixing mode pen)
+    ensures { Draws S.means S.keeps S.rest (λ a b. traced from to (longer from to) a b && holds rect a b) (mixing mode pen)
         surface.old surface.new }
 {
     let (first, last) = stretch(from, to, rect);
@@ -72,7 +72,7 @@ pub fn line<S: Surface>(
     from: Point,
     to: Point,
 ) -> Result<(), Refusal>
-    ensures { Performs means keeps rest (line_task pencil.now from to) result surface.old surface.new }
+    ensures { Performs S.means S.keeps S.rest (line_task pencil.now from to) result surface.old surface.new }
 {
     if !in_range(from, to) {
         return Err(Refusal::Range);

@@ -34,7 +34,7 @@ impl DeviceContext {
 
     // A line from the position, which moves to its end.
     fn line_to<S: Surface>(&mut self, to: LogicalPoint, surface: &mut S) -> Result<Answer, Refusal>
-        ensures { Happens means keeps rest (line_to to self.old) result self.new surface.old surface.new }
+        ensures { Happens S.means S.keeps S.rest (line_to to self.old) result self.new surface.old surface.new }
     {
         let from = self.origins.device(self.position);
         line(surface, &self.pencil, from, self.origins.device(to))?;
@@ -51,7 +51,7 @@ impl DeviceContext {
         height: i16,
         surface: &mut S,
     ) -> Result<Answer, Refusal>
-        ensures { Happens means keeps rest (pat_blt code at width height self.old) result self.new surface.old surface.new }
+        ensures { Happens S.means S.keeps S.rest (pat_blt code at width height self.old) result self.new surface.old surface.new }
     {
         let area = self.origins.area(at, width, height);
         let ink = self.pencil.brush.ink(self.pencil.back);
@@ -69,7 +69,7 @@ impl DeviceContext {
         source: LogicalPoint,
         surface: &mut S,
     ) -> Result<Answer, Refusal>
-        ensures { Happens means keeps rest (bit_blt code at width height source self.old) result self.new surface.old surface.new }
+        ensures { Happens S.means S.keeps S.rest (bit_blt code at width height source self.old) result self.new surface.old surface.new }
     {
         let area = self.origins.area(at, width, height);
         let source = self.origins.device(source);
@@ -84,7 +84,7 @@ impl DeviceContext {
         record: Record<'_>,
         surface: &mut S,
     ) -> Result<Answer, Refusal>
-        ensures { Happens means keeps rest (plays «record».entry self.old) result self.new surface.old surface.new }
+        ensures { Happens S.means S.keeps S.rest (plays «record».entry self.old) result self.new surface.old surface.new }
     {
         match record {
             Record::End => return Ok(Answer::Ended),

@@ -41,7 +41,7 @@ impl Progress {
     // Plays what was found at the place.
     fn obey<S: Surface>(&mut self, found: Found<'_>, surface: &mut S) -> Result<Answer, StepFault>
         requires { (total self.old.counts + 1 < 2 ^ 64) × (self.old.place < found-end found) }
-        ensures obeyed { Obeys means keeps rest (found-end found.entry) (found-outcome found.entry self.old.context) result self.old self.new surface.old surface.new }
+        ensures obeyed { Obeys S.means S.keeps S.rest (found-end found.entry) (found-outcome found.entry self.old.context) result self.old self.new surface.old surface.new }
         ensures counted { total self.new.counts + self.old.place ≤ total self.old.counts + self.new.place }
     {
         let place = self.place;
@@ -66,7 +66,7 @@ impl<'a> Run<'a> {
     // Plays the record at the run's place.
     pub fn step<S: Surface>(&mut self, surface: &mut S) -> Result<Answer, StepFault>
         ensures bytes { self.new.bytes.now ≡ self.old.bytes.now }
-        ensures stepped { Stepped means keeps rest (λ w. w) self.old.bytes.now self.old.progress surface.old result self.new.progress surface.new }
+        ensures stepped { Stepped S.means S.keeps S.rest (λ w. w) self.old.bytes.now self.old.progress surface.old result self.new.progress surface.new }
     {
         let place = self.progress.place;
         match (self.progress.phase, find(self.bytes, place)) {

@@ -32,7 +32,7 @@ pub fn play<S: Surface>(
     heap: Global,
 ) -> Result<Vec<Step>, AllocError>
     ensures bytes { run.new.bytes.now ≡ run.old.bytes.now }
-    ensures played { IfOk result (λ v. PlayedOut means keeps rest run.old.bytes.now run.old.progress surface.old v.items run.new.progress surface.new) }
+    ensures played { IfOk result (λ v. PlayedOut S.means S.keeps S.rest run.old.bytes.now run.old.progress surface.old v.items run.new.progress surface.new) }
     ensures untouched { OnErr result ((run.new.progress ≡ run.old.progress) × (surface.new ≡ surface.old)) }
 {
     let left = run.bytes.len().saturating_sub(run.progress.place);
