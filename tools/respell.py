@@ -83,7 +83,7 @@ def table(root):
         defined |= here - there
     names = {n for n in defined if re.fullmatch(r"[a-z][a-z0-9_]*", n)} | WORDS
     rows = {}
-    for n in sorted(defined - made):
+    for n in sorted(defined - made - fields(root)):
         if re.search(r"[A-Za-z]", n):
             new = spelled(n, names)
             if new != n:

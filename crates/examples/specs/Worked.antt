@@ -22,7 +22,7 @@ pub record Line (p q : Point) (list : List Point) : Type 0 where
 pub record Examples (r : Worked) : Type 0 where
   -- the raster operation 0xB8 on the pattern, the source and the picture that name its rows
   pub all_rows : combined 0xB8 0xF0 0xCC 0xAA ≡ 0xB8
-  pub all-rows_called : r.all_rows ≡ 0xB8
+  pub all_rows_called : r.all_rows ≡ 0xB8
   -- the raster operation 0x66 on the source 5 and the picture 3, with any pattern
   pub exclusive : (p : ℕ) → combined 0x66 p 5 3 ≡ 6
   pub exclusive_called : r.exclusive ≡ 6
