@@ -2,7 +2,7 @@ use std::alloc::AllocError;
 use std::io;
 
 // Why the comparison could not be made.
-#[derive(Clone, Copy)]
+#[derive(Clone, Copy, Debug)]
 pub(crate) enum Trouble {
     Memory,
     InOrOut,

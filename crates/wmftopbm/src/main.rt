@@ -16,6 +16,7 @@ use raster::Packed;
 use report::{USAGE, tell};
 use std::io;
 use std::io::Read;
+use std::process::ExitCode;
 
 // A file may have so many bytes, and one more is read to know a longer one.
 const MOST: u64 = 65537;
@@ -54,12 +55,12 @@ fn run(rt: &HostRuntime) -> Result<(), Failure> {
     }
 }
 
-fn main(rt: HostRuntime) -> Result<(), Failure> {
+fn main(rt: HostRuntime) -> ExitCode {
     match run(&rt) {
-        Ok(()) => Ok(()),
+        Ok(()) => ExitCode::SUCCESS,
         Err(failure) => {
             failure.tell(&rt);
-            Err(failure)
+            ExitCode::FAILURE
         }
     }
 }
