@@ -1,14 +1,13 @@
 -- A machine that goes on, call by call.
-use Rattle.std.proofs.Common.{◌≡◌, ℕ, ◌<◌, ◌≤◌, Bool, true, false, cond, ◌&&◌, ◌||◌, List, [], ◌∷◌, ◌++◌, ℤ, sym, refl, ap, ◌∙◌, subst}
-use Rattle.std.proofs.lemmas.Bool.{and_left, and_right, or_parts}
-use Rattle.codes.specs.Bits.{bit}
+use Rattle.std.proofs.Common.{◌≡◌, ℕ, ◌≤◌, Bool, false, cond, ◌&&◌, ◌||◌, List, [], ◌∷◌, ◌++◌, ℤ, sym, refl, ap, ◌∙◌, subst}
+use Rattle.std.proofs.lemmas.Bool.{and_right, or_parts}
 use Rattle.surface.specs.Meaning.{Meaning}
 use Rattle.surface.specs.Rects.{Keep, Kept}
 use Rattle.surface.proofs.Keeping.{kept_none, kept_both}
 use Rattle.playback.specs.Records.{Mark, untouched, marked}
 use Rattle.player.specs.Playing.{after, aimed}
 use Rattle.player.specs.declared.progress.Progress.{Progress}
-use Rattle.calls.specs.Machine.{Standing, begun, onward, Makes, Made, Acts, Machine, none, next}
+use Rattle.calls.specs.Machine.{Standing, begun, Makes, Made, Acts, Machine, none, next}
 use Rattle.calls.specs.Promise.{Still, Led, Performed}
 use Rattle.player.proofs.Wholes.{marks_picture, marks_kept, marks_rest}
 use Rattle.calls.specs.declared.call.Call.{Call}

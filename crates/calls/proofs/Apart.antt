@@ -1,6 +1,5 @@
 -- No bit plane touches another: what a list of calls does, seen through plane k, is what the machine of plane k does.
-use Rattle.std.proofs.Common.{◌≡◌, ℕ, ◌<◌, ◌≤◌, Bool, true, false, ◌&&◌, ◌||◌, List, [], ◌∷◌, ◌++◌, ℤ, Ok, Err, Result, sym, refl, ap, ◌∙◌, subst, arith}
-use mathlib.Core.Path.{fun_ext}
+use Rattle.std.proofs.Common.{◌≡◌, ℕ, ◌<◌, ◌≤◌, ◌||◌, List, ℤ, Ok, Err, Result, sym, refl, ap, ◌∙◌, subst, arith}
 use Rattle.codes.specs.Bits.{bit}
 use Rattle.codes.specs.declared.refusal.Refusal.{Refusal}
 use Rattle.surface.specs.Meaning.{Meaning}
@@ -15,14 +14,14 @@ use Rattle.playback.specs.declared.answer.Answer.TheVariants as answer
 use Rattle.playback.specs.declared.context.DeviceContext.{DeviceContext}
 use Rattle.playback.specs.declared.objects.Slot.TheVariants as slot
 use Rattle.player.specs.Runs.{told, Steps, over, lost, broken, played, past, with_context}
-use Rattle.player.specs.Playing.{after, aimed}
-use Rattle.player.specs.Views.{seen_brush, seen_pen, seen_record}
+use Rattle.player.specs.Playing.{after}
+use Rattle.player.specs.Views.{seen_record}
 use Rattle.player.specs.declared.fault.StepFault.{StepFault}
 use Rattle.player.specs.declared.progress.Progress.{Progress}
 use Rattle.player.proofs.Strides.{same_record}
 use Rattle.calls.specs.Planes.{plane}
-use Rattle.calls.specs.Seeing.{seen_pencil, seen_slot, seen_objects, seen_context, seen_progress}
-use Rattle.calls.specs.Machine.{Draughts, Standing, onward, cleared, Makes, Acts, Machine, none, next}
+use Rattle.calls.specs.Seeing.{seen_pencil, seen_objects, seen_context, seen_progress}
+use Rattle.calls.specs.Machine.{Draughts, Standing, onward, Makes, Acts, Machine, none, next}
 use Rattle.calls.specs.declared.call.Call.{Call}
 use Rattle.calls.specs.declared.call.Call.TheVariants as call
 use Rattle.calls.specs.declared.call.MeterCall.{MeterCall}

@@ -1,6 +1,5 @@
 -- A meter's rectangle in the course of calls and clearings.
-use Rattle.std.proofs.Common.{◌≡◌, ℕ, ◌≤◌, Bool, true, false, ◌||◌, T, List, [], ◌∷◌, ◌++◌, ℤ, pos, ◌+ℤ◌, Some, None, Option, sym, refl, ap, ◌∙◌, subst, arith}
-use lib.Signed.{lt_z, le_z}
+use Rattle.std.proofs.Common.{◌≡◌, ℕ, ◌≤◌, Bool, true, false, ◌||◌, T, List, [], ◌∷◌, ◌++◌, ℤ, Some, None, Option, sym, refl, ap, ◌∙◌, subst, arith}
 use Rattle.std.proofs.lemmas.Int.{ints}
 use Rattle.surface.specs.Meaning.{Meaning}
 use Rattle.surface.specs.Rects.{Within, holds, held, bounds, Grown, Kept, more}
@@ -8,14 +7,12 @@ use Rattle.surface.specs.declared.rect.Rect.{Rect}
 use Rattle.surface.proofs.Keeping.{or_left, or_right, or_out}
 use Rattle.layers.specs.Bounds.{solid}
 use Rattle.layers.specs.declared.meter.Meter.{Meter}
-use Rattle.playback.specs.Records.{Mark}
 use Rattle.player.specs.Playing.{after, aimed}
 use Rattle.player.specs.declared.progress.Progress.{Progress}
 use Rattle.player.proofs.Wholes.{marks_picture, marks_kept, marks_rest}
-use Rattle.calls.specs.Machine.{Standing, begun, cleared, Makes, Machine, none}
+use Rattle.calls.specs.Machine.{Standing, begun, Machine, none}
 use Rattle.calls.specs.Metering.{Acted}
 use Rattle.calls.specs.Promise.{Bounding, Metered}
-use Rattle.calls.specs.declared.call.Call.{Call}
 use Rattle.calls.specs.declared.call.MeterCall.{MeterCall}
 use Rattle.calls.specs.declared.call.MeterCall.TheVariants as act
 use Rattle.calls.specs.declared.call.Reply.{Reply}

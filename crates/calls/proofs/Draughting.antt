@@ -1,5 +1,5 @@
 -- A drawing call's answer as a reply with its mark.
-use Rattle.std.proofs.Common.{◌≡◌, ℕ, ℤ, Result, sym, refl, ap, subst}
+use Rattle.std.proofs.Common.{◌≡◌, Result, sym, refl, ap, subst}
 use Rattle.codes.specs.declared.refusal.Refusal.{Refusal}
 use Rattle.surface.specs.Meaning.{Meaning}
 use Rattle.surface.specs.Rects.{Keep}

@@ -1,13 +1,11 @@
 -- Bit planes of words, drawings and tasks.
 use Rattle.std.proofs.Common.{◌≡◌, ℕ, ◌+◌, ◌-◌, ◌/◌, ◌%◌, ◌^◌, ◌<◌, ◌≤◌, Bool, true, false, cond, ◌&&◌, ℤ, ◌+ℤ◌, ◌-ℤ◌, sym, refl, ap, ◌∙◌, div-one, arith}
-use mathlib.Core.Path.{fun_ext}
 use native.Mathlib.Nat.{zero-div}
 use Rattle.std.proofs.lemmas.Nat.{field_of, mod-pow-add}
 use Rattle.codes.specs.Bits.{bit}
 use Rattle.codes.specs.Modes.{mode_number}
 use Rattle.codes.specs.Operations.{combined, mixed, sourced}
 use Rattle.codes.specs.declared.refusal.Refusal.{Refusal}
-use Rattle.codes.specs.declared.refusal.Refusal.TheVariants.{Operation, Range}
 use Rattle.codes.proofs.Words.{operation_planes, mode_planes}
 use Rattle.surface.specs.Meaning.{Meaning}
 use Rattle.surface.specs.Rects.{holds}
@@ -18,7 +16,7 @@ use Rattle.pencil.specs.declared.brush.Brush.TheVariants as brush
 use Rattle.pencil.specs.declared.pen.Pen.{Pen}
 use Rattle.pencil.specs.declared.pen.Pen.TheVariants as pen
 use Rattle.pencil.specs.declared.pencil_state.Pencil.{Pencil}
-use Rattle.drawing.specs.Areas.{covers, placed, ranged}
+use Rattle.drawing.specs.Areas.{placed, ranged}
 use Rattle.drawing.specs.Lines.{longer, traced}
 use Rattle.drawing.specs.Tasks.{Task, refuse, draw, draws, colour, line_task, paint_task, copy_task}
 use Rattle.drawing.specs.declared.shape.Area.{Area}

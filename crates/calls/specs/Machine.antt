@@ -1,8 +1,8 @@
 -- What a list of calls does, call by call. Every colour and every ink's word is seen through a view, a function of words: the player
 -- sees them as they are, and the machine of bit plane k sees their bit k.
-use Rattle.std.specs.Prelude.{◌≡◌, ℕ, ◌<◌, Bool, false, ◌||◌, T, List, [], ◌∷◌, ℤ, Ok, Err, Result}
+use Rattle.std.specs.Prelude.{◌≡◌, ℕ, Bool, false, ◌||◌, List, [], ◌∷◌, ℤ, Ok, Err, Result}
 use Rattle.surface.specs.Meaning.{Meaning}
-use Rattle.surface.specs.Rects.{Keep, Kept}
+use Rattle.surface.specs.Rects.{Keep}
 use Rattle.drawing.specs.Tasks.{Task, refuse, draw, line_task, paint_task, copy_task}
 use Rattle.playback.specs.Records.{Mark, Marks, untouched, marked}
 use Rattle.playback.specs.declared.answer.Answer.{Answer}

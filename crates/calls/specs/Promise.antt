@@ -7,7 +7,7 @@ use Rattle.surface.specs.declared.rect.Rect.{Rect}
 use Rattle.player.specs.declared.progress.Progress.{Progress}
 use Rattle.player.specs.Playing.{Plays}
 use Rattle.player.specs.declared.whole.Step.{Step}
-use Rattle.calls.specs.Machine.{Standing, begun, Machine}
+use Rattle.calls.specs.Machine.{begun, Machine}
 use Rattle.calls.specs.Planes.{plane}
 use Rattle.calls.specs.Seeing.{seen_progress}
 use Rattle.calls.specs.declared.call.MeterCall.{MeterCall}

@@ -1,5 +1,5 @@
 -- The first record refused, step by step.
-use Rattle.std.proofs.Common.{◌≡◌, List, [], ◌∷◌, ◌++◌, Some, None, Option, sym, refl, ap, ◌∙◌}
+use Rattle.std.proofs.Common.{◌≡◌, List, [], ◌∷◌, ◌++◌, Some, None, Option, refl, ap, ◌∙◌}
 use Rattle.player.specs.declared.fault.RecordFault.{RecordFault}
 use Rattle.player.specs.declared.whole.Step.{Step}
 use Rattle.capi.specs.Listening.{record_fault, earlier, first_refused}

@@ -1,6 +1,6 @@
 -- Sweeps over the rows of a rectangle and the cells of a row.
-use Rattle.std.proofs.Common.{◌≡◌, ℕ, Bool, true, false, ◌&&◌, ◌||◌, ℤ, pos, ◌+ℤ◌, ◌-ℤ◌, ◌≤ℤ◌, ◌<ℤ◌, sym, refl, ap, ◌∙◌, arith}
-use lib.Signed.{le_z, lt_z}
+use Rattle.std.proofs.Common.{◌≡◌, ℕ, Bool, true, false, ◌&&◌, ◌||◌, ℤ, pos, ◌+ℤ◌, ◌-ℤ◌, ◌≤ℤ◌, sym, refl, ap, ◌∙◌, arith}
+use lib.Signed.{lt_z}
 use Rattle.std.specs.Int.{int_max}
 use Rattle.std.proofs.lemmas.Int.{ints}
 use Rattle.codes.specs.Operations.{combined}
@@ -8,7 +8,7 @@ use Rattle.surface.specs.Meaning.{Meaning, filled, spans, strip}
 use Rattle.surface.specs.Rects.{Keep, Kept, holds}
 use Rattle.surface.specs.Drawing.{Drawn}
 use Rattle.surface.specs.declared.rect.Rect.{Rect}
-use Rattle.surface.proofs.Strokes.{Cells, Shades, drawn_cell, drawn-more, drawn-word, local_more}
+use Rattle.surface.proofs.Strokes.{Shades, drawn_cell, drawn-more, drawn-word, local_more}
 use Rattle.drawing.specs.Areas.{between, row}
 use Rattle.drawing.specs.Tasks.{blended}
 

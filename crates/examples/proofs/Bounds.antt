@@ -1,5 +1,5 @@
 -- What a meter keeps of the block.
-use Rattle.std.proofs.Common.{◌≡◌, ℕ, ◌+◌, ◌*◌, Bool, true, ◌&&◌, T, leb, [], ◌∷◌, ℤ, pos, nat_abs, Some, None, Option, sym, refl, subst, arith}
+use Rattle.std.proofs.Common.{◌≡◌, ◌+◌, ◌*◌, Bool, true, ◌&&◌, T, leb, [], ◌∷◌, ℤ, pos, nat_abs, Some, None, Option, sym, subst, arith}
 use Rattle.std.proofs.lemmas.Int.{ints}
 use Rattle.std.proofs.lemmas.Bool.Decides.{nat_tests}
 use Rattle.surface.specs.Facts.{and_out, and_in, spans_out, spans_in}

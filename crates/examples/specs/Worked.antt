@@ -6,7 +6,6 @@ use Rattle.drawing.specs.Lines.{longer, traced}
 use Rattle.drawing.specs.declared.shape.Point.{Point}
 use Rattle.lines.specs.Examples.{at, cells}
 use Rattle.examples.specs.Pictures.{rect}
-use Rattle.examples.specs.declared.painting.Painted.{Painted}
 use Rattle.examples.specs.declared.worked.Worked.{Worked}
 
 -- a cell is one of a list

@@ -1,5 +1,5 @@
 -- From an end on nothing changes.
-use Rattle.std.proofs.Common.{◌≡◌, ℕ, Bool, true, false, ◌||◌, ◌⊎◌, List, [], ◌∷◌, ◌++◌, ℤ, Ok, Err, Result, sym, refl, ap, ◌∙◌, subst, inl, inr, arith}
+use Rattle.std.proofs.Common.{◌≡◌, ℕ, Bool, true, false, ◌||◌, List, [], ◌∷◌, ◌++◌, ℤ, Ok, Err, Result, sym, refl, ap, ◌∙◌, subst, inl, inr, arith}
 use Rattle.std.proofs.ByRecursion.{All-push}
 use Rattle.surface.specs.Meaning.{Meaning}
 use Rattle.codes.specs.declared.refusal.Refusal.{Refusal}
@@ -9,10 +9,10 @@ use Rattle.metafile.specs.declared.record.Record.TheVariants as shown
 use Rattle.playback.specs.Records.{Mark, untouched, Outcome, plays, drawing, allowed}
 use Rattle.playback.specs.declared.answer.Answer.{Answer}
 use Rattle.playback.specs.declared.answer.Answer.TheVariants as answer
-use Rattle.player.specs.Playing.{Plays, none, next, after, aimed}
+use Rattle.player.specs.Playing.{none, next, after, aimed}
 use Rattle.player.specs.Finding.{ShowsAt}
 use Rattle.player.specs.Views.{seen_record}
-use Rattle.player.specs.Runs.{Steps, over, lost, broken, played, told}
+use Rattle.player.specs.Runs.{over, lost, broken, played, told}
 use Rattle.player.specs.declared.fault.StepFault.{StepFault}
 use Rattle.playback.specs.declared.context.DeviceContext.{DeviceContext}
 use Rattle.player.specs.declared.progress.Phase.TheVariants.{Ended}

@@ -1,5 +1,5 @@
 -- A checked file that was played until it stopped.
-use Rattle.std.proofs.Common.{◌≡◌, ℕ, List, sym, refl, ap, ◌∙◌, subst, arith}
+use Rattle.std.proofs.Common.{◌≡◌, ℕ, List, ap, subst, arith}
 use Rattle.surface.specs.Meaning.{Meaning}
 use Rattle.surface.specs.Rects.{Keep}
 use Rattle.player.specs.Playing.{PlayedOut}

@@ -1,6 +1,5 @@
 -- What a run's answers say of the places where they were given.
-use Rattle.std.proofs.Common.{◌≡◌, ℕ, ◌≤◌, Bool, true, false, cond, ◌&&◌, ◌⊎◌, List, length, ℤ, pos, negsuc, ◌+ℤ◌, ◌-ℤ◌, ◌≤ℤ◌, Ok, Err, Result, sym, refl, ap, ◌∙◌, subst, inl, inr, ⊎_elim, arith, w16, to_z}
-use Rattle.std.specs.List.{AllByRecursion as All}
+use Rattle.std.proofs.Common.{◌≡◌, ℕ, ◌≤◌, Bool, true, false, cond, ◌&&◌, List, length, ℤ, pos, negsuc, ◌+ℤ◌, ◌-ℤ◌, ◌≤ℤ◌, Ok, Err, Result, sym, refl, subst, inl, inr, ⊎_elim, arith, w16, to_z}
 use Rattle.std.proofs.ByRecursion.{All-push}
 use Rattle.std.proofs.lemmas.Int.{ints}
 use Rattle.std.proofs.lemmas.Bool.{true≢false}
@@ -9,8 +8,7 @@ use Rattle.codes.specs.declared.refusal.Refusal.{Refusal}
 use Rattle.codes.specs.declared.refusal.Refusal.TheVariants as refusal
 use Rattle.surface.specs.Meaning.{Meaning}
 use Rattle.drawing.specs.Areas.{coordinate, extent, placed, ranged}
-use Rattle.drawing.specs.Tasks.{Task, refuse, draw}
-use Rattle.metafile.specs.Bytes.{word, signed}
+use Rattle.drawing.specs.Tasks.{refuse, draw}
 use Rattle.metafile.specs.Decoding.{PointIs, Shows, Breaks}
 use Rattle.metafile.specs.Frames.{Lies, end, function, parameters}
 use Rattle.metafile.specs.Functions.{Listed, Missized}
@@ -24,19 +22,14 @@ use Rattle.playback.specs.declared.answer.Answer.{Answer}
 use Rattle.playback.specs.declared.answer.Answer.TheVariants as answer
 use Rattle.playback.specs.declared.context.DeviceContext.{DeviceContext}
 use Rattle.playback.specs.declared.context.LogicalPoint.{LogicalPoint}
-use Rattle.playback.specs.declared.context.Origins.{Origins}
 use Rattle.playback.specs.declared.objects.Slot.{Slot}
 use Rattle.playback.specs.declared.objects.Slot.TheVariants as slot
-use Rattle.player.specs.Finding.{ShowsAt}
-use Rattle.player.specs.Playing.{Plays, none, next}
-use Rattle.player.specs.Runs.{Steps, over, lost, broken, played, past, told, with_context, begun}
+use Rattle.player.specs.Playing.{none, next}
+use Rattle.player.specs.Runs.{Steps, over, lost, broken, played, past, told, with_context}
 use Rattle.player.specs.Views.{seen_record}
 use Rattle.player.specs.declared.fault.StepFault.{StepFault}
-use Rattle.player.specs.declared.fault.StepFault.TheVariants as fault
-use Rattle.player.specs.declared.progress.Phase.{Phase}
-use Rattle.player.specs.declared.progress.Phase.TheVariants.{Playing, Ended}
+use Rattle.player.specs.declared.progress.Phase.TheVariants.{Playing}
 use Rattle.player.specs.declared.progress.Progress.{Progress}
-use Rattle.player.specs.declared.whole.Step.{Step}
 use Rattle.player.proofs.Single.{one-step, phases, not_over}
 use Rattle.laws.specs.Runs.{Short, ShortPoint, Standing, Says, Rightly, Answers, Starts}
 

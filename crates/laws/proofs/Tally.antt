@@ -1,18 +1,17 @@
 -- The counts of a run grow by the tally of its answers.
-use Rattle.std.proofs.Common.{◌≡◌, ℕ, ◌+◌, Bool, cond, List, [], ◌∷◌, ◌++◌, ℤ, Ok, Err, Result, sym, refl, ap, ◌∙◌, arith}
+use Rattle.std.proofs.Common.{◌≡◌, ℕ, ◌+◌, Bool, cond, List, [], ◌∷◌, ◌++◌, Ok, Err, Result, sym, refl, ap, ◌∙◌, arith}
 use Rattle.codes.specs.declared.refusal.Refusal.{Refusal}
-use Rattle.surface.specs.Meaning.{Meaning}
 use Rattle.metafile.specs.Frames.{end}
 use Rattle.playback.specs.Records.{Mark}
 use Rattle.playback.specs.declared.answer.Answer.{Answer}
 use Rattle.playback.specs.declared.answer.Answer.TheVariants as answer
-use Rattle.player.specs.Playing.{Plays, none, next}
+use Rattle.player.specs.Playing.{none, next}
 use Rattle.player.specs.Runs.{Steps, over, lost, broken, played, past, told, with_context}
 use Rattle.player.specs.declared.fault.StepFault.{StepFault}
 use Rattle.player.specs.declared.progress.Counts.{Counts}
 use Rattle.player.specs.declared.progress.Progress.{Progress}
 use Rattle.player.specs.declared.whole.Step.{Step}
-use Rattle.laws.specs.Runs.{Tallied, Tallies, number, was_taken, was_refused, was_passed_over}
+use Rattle.laws.specs.Runs.{Tallies, number, was_taken, was_refused, was_passed_over}
 
 number_push : (so : Result Answer StepFault → Bool) (ss : List Step) (s : Step) → number so (ss ++ (s ∷ [])) ≡ number so ss + cond (so s.answer) 1 0
 number_push so [] s = omega arith

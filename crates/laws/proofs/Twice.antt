@@ -1,5 +1,5 @@
 -- A run made twice comes to the same.
-use Rattle.std.proofs.Common.{◌≡◌, ℕ, ◌+◌, Bool, ◌||◌, List, [], ◌∷◌, ◌++◌, length, ℤ, Result, sym, refl, ap, ◌∙◌, subst, arith, length-append}
+use Rattle.std.proofs.Common.{◌≡◌, ℕ, ◌+◌, Bool, ◌||◌, List, [], ◌∷◌, ◌++◌, length, ℤ, Result, sym, refl, subst, arith, length-append}
 use Rattle.surface.specs.Meaning.{Meaning}
 use Rattle.playback.specs.Records.{Mark}
 use Rattle.playback.specs.declared.answer.Answer.{Answer}

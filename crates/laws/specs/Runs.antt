@@ -11,7 +11,6 @@ use Rattle.metafile.specs.declared.record.Record.TheVariants as shown
 use Rattle.playback.specs.Records.{Mark}
 use Rattle.playback.specs.declared.answer.Answer.{Answer}
 use Rattle.playback.specs.declared.answer.Answer.TheVariants as answer
-use Rattle.playback.specs.declared.context.DeviceContext.{DeviceContext}
 use Rattle.playback.specs.declared.context.LogicalPoint.{LogicalPoint}
 use Rattle.player.specs.Finding.{ShowsAt}
 use Rattle.player.specs.Playing.{Plays, PlayedOut}
@@ -19,7 +18,7 @@ use Rattle.player.specs.Runs.{Steps, begun}
 use Rattle.player.specs.declared.fault.StepFault.{StepFault}
 use Rattle.player.specs.declared.fault.StepFault.TheVariants as fault
 use Rattle.player.specs.declared.progress.Counts.{Counts}
-use Rattle.player.specs.declared.progress.Phase.TheVariants.{Playing, Ended}
+use Rattle.player.specs.declared.progress.Phase.TheVariants.{Ended}
 use Rattle.player.specs.declared.progress.Progress.{Progress}
 use Rattle.player.specs.declared.whole.Step.{Step}
 

@@ -1,8 +1,8 @@
 -- Cells of spans, strips and rectangles, and pictures that agree cell by cell.
-use Rattle.std.proofs.Common.{◌≡◌, ℕ, ◌+◌, ◌-◌, ◌<◌, ◌≤◌, ◌&&◌, T, ℤ, pos, ◌+ℤ◌, ◌≤ℤ◌, ◌<ℤ◌, sym, ap, subst, inl, inr, arith}
+use Rattle.std.proofs.Common.{◌≡◌, ℕ, ◌&&◌, T, ℤ, pos, ◌+ℤ◌, ◌≤ℤ◌, ◌<ℤ◌, sym, ap, subst, inl, inr, arith}
 use mathlib.Core.Path.{fun_ext}
 use lib.Signed.{le_z, lt_z}
-use borrow.Author.Differences.{ints, up}
+use borrow.Author.Differences.{ints}
 use Rattle.std.specs.Int.{int_max, int_min}
 use Rattle.std.proofs.lemmas.Int.{clamps}
 use Rattle.std.proofs.lemmas.Bool.{cases_Bool}

@@ -1,5 +1,5 @@
 -- Lines.
-use Rattle.std.proofs.Common.{◌≡◌, ℕ, zero, suc, ◌+◌, ◌-◌, ◌*◌, ◌/◌, ◌%◌, ◌<◌, ◌≤◌, Bool, true, false, cond, ◌&&◌, ◌||◌, leb, ◌≢◌, ◌⊎◌, ℤ, pos, ◌+ℤ◌, ◌-ℤ◌, nat_abs, ◌≤ℤ◌, ◌<ℤ◌, sym, refl, ap, ◌∙◌, subst, inl, inr, mul_assoc, div-lt_iff_lt-mul, add-mul, zero-add, mul_left_comm, arith, w32, w64, SFits}
+use Rattle.std.proofs.Common.{◌≡◌, ℕ, zero, suc, ◌+◌, ◌-◌, ◌*◌, ◌/◌, ◌%◌, ◌<◌, ◌≤◌, Bool, true, false, cond, ◌&&◌, ◌||◌, leb, ℤ, pos, ◌+ℤ◌, ◌-ℤ◌, nat_abs, ◌≤ℤ◌, ◌<ℤ◌, sym, refl, ap, ◌∙◌, subst, inl, inr, mul_assoc, div-lt_iff_lt-mul, add-mul, zero-add, mul_left_comm, arith, w32, w64, SFits}
 use lib.Signed.{le_z, lt_z}
 use Rattle.std.specs.Int.{int_max, int_min}
 use Rattle.std.proofs.lemmas.Int.{ints}
@@ -12,7 +12,7 @@ use Rattle.surface.specs.Meaning.{Meaning, inside, spans, strip}
 use Rattle.surface.specs.Rects.{Keep, holds, overlap}
 use Rattle.surface.specs.Drawing.{Drawn}
 use Rattle.surface.specs.declared.rect.Rect.{Rect}
-use Rattle.surface.proofs.Strokes.{Cells, Shades, at_set, cell_out, drawn-none, local_more}
+use Rattle.surface.proofs.Strokes.{Cells, at_set, cell_out, drawn-none, local_more}
 use Rattle.pencil.specs.declared.pen.Pen.{Pen}
 use Rattle.pencil.specs.declared.pen.Pen.TheVariants as pen
 use Rattle.drawing.specs.Areas.{between, coordinate, placed}

@@ -1,5 +1,5 @@
 -- Every function with its parameters shows a record or breaks a rule.
-use Rattle.std.proofs.Common.{◌≡◌, ℕ, ◌≤◌, ◌⊎◌, List, length, ℤ, pos, negsuc, ◌≤ℤ◌, sym, refl, subst, inl, inr, ⊎_elim, arith}
+use Rattle.std.proofs.Common.{◌≡◌, ℕ, ◌⊎◌, List, length, ℤ, pos, negsuc, ◌≤ℤ◌, sym, refl, subst, inl, inr, ⊎_elim, arith}
 use Rattle.std.proofs.lemmas.Bool.{cases_eq, cases_lt, cases_Bool}
 use Rattle.std.proofs.lemmas.Int.{ints}
 use Rattle.codes.specs.Operations.{sourced}

@@ -1,5 +1,5 @@
 -- A drawing call's answer as a record's outcome.
-use Rattle.std.proofs.Common.{◌≡◌, ℕ, Ok, Err, Result, refl, arith}
+use Rattle.std.proofs.Common.{◌≡◌, ℕ, Ok, Err, refl, arith}
 use Rattle.codes.specs.declared.refusal.Refusal.{Refusal}
 use Rattle.surface.specs.Meaning.{Meaning}
 use Rattle.surface.specs.Rects.{Keep}

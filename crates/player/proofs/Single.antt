@@ -1,16 +1,14 @@
 -- A step has one outcome.
 use Rattle.std.proofs.Common.{◌≡◌, ℕ, ◌+◌, ◌*◌, ◌⊎◌, List, length, Ok, Err, Result, sym, refl, ap, ◌∙◌, inl, inr, ⊎_elim, arith}
 use Rattle.std.proofs.lemmas.Bool.{cases_lt}
-use Rattle.codes.specs.declared.refusal.Refusal.{Refusal}
 use Rattle.metafile.specs.Bytes.{long}
 use Rattle.metafile.specs.Exact.{Elsewhere}
 use Rattle.metafile.specs.Frames.{Lies, end, function, parameters}
 use Rattle.metafile.specs.declared.record.Record.{Record}
 use Rattle.metafile.proofs.Outcomes.{outcome}
 use Rattle.metafile.proofs.Seen.{one_record, one_cause, not_both}
-use Rattle.playback.specs.Records.{Mark, untouched, Outcome, plays}
+use Rattle.playback.specs.Records.{Mark, Outcome, plays}
 use Rattle.playback.specs.declared.answer.Answer.{Answer}
-use Rattle.playback.specs.declared.answer.Answer.TheVariants as answer
 use Rattle.playback.specs.declared.context.DeviceContext.{DeviceContext}
 use Rattle.player.specs.Runs.{Steps, over, lost, broken, played, past, told, with_context, Tells, Foretells}
 use Rattle.player.specs.Views.{seen_record}

@@ -5,8 +5,7 @@ use Rattle.codes.specs.declared.refusal.Refusal.{Refusal}
 use Rattle.surface.specs.Meaning.{Meaning}
 use Rattle.surface.specs.Rects.{Keep, Kept}
 use Rattle.surface.proofs.Keeping.{kept_none, kept_both}
-use Rattle.metafile.specs.Bytes.{long}
-use Rattle.metafile.specs.Frames.{Lies, end}
+use Rattle.metafile.specs.Frames.{end}
 use Rattle.playback.specs.Records.{Mark, untouched, marked, Marks}
 use Rattle.playback.specs.declared.answer.Answer.{Answer}
 use Rattle.playback.specs.declared.answer.Answer.TheVariants as answer

@@ -18,7 +18,6 @@ use Rattle.player.specs.declared.fault.StepFault.TheVariants as fault
 use Rattle.player.specs.declared.finding.Found.{Found}
 use Rattle.player.specs.declared.finding.Found.TheVariants as found
 use Rattle.player.specs.declared.progress.Counts.{Counts}
-use Rattle.player.specs.declared.progress.Phase.{Phase}
 use Rattle.player.specs.declared.progress.Phase.TheVariants.{Playing, Ended}
 use Rattle.player.specs.declared.progress.Progress.{Progress}
 use Rattle.player.specs.declared.stepping.Question.{Question}

@@ -1,11 +1,11 @@
 -- Which units a strip of cells reaches, and what picture they make.
-use Rattle.std.proofs.Common.{◌≡◌, ℕ, ◌+◌, ◌-◌, ◌*◌, ◌/◌, ◌%◌, ◌^◌, ◌<◌, ◌≤◌, Bool, true, false, cond, ◌&&◌, ltb, leb, ◌⊎◌, ℤ, pos, negsuc, ◌+ℤ◌, nat_abs, sym, refl, ◌∙◌, subst, inl, inr, ⊎_elim, add-mul, arith}
+use Rattle.std.proofs.Common.{◌≡◌, ℕ, ◌+◌, ◌-◌, ◌*◌, ◌/◌, ◌%◌, ◌^◌, ◌<◌, ◌≤◌, Bool, true, false, cond, ◌&&◌, leb, ◌⊎◌, ℤ, pos, negsuc, nat_abs, sym, refl, ◌∙◌, subst, inl, inr, ⊎_elim, add-mul, arith}
 use lib.Signed.{le_z}
 use Rattle.std.proofs.lemmas.Nat.{div-mul-add, mod-mul-add, div-add-mod', mod_below, mul-le}
 use Rattle.std.proofs.lemmas.Int.{ints}
 use Rattle.std.proofs.lemmas.Bool.{cases_eq, cases_lt, cases_Bool, and_parts, and_left, and_right, false≢true, leb-true, le-leb}
 use Rattle.std.proofs.lemmas.Bool.Decides.{nat_tests}
-use Rattle.surface.specs.Meaning.{Meaning, spans, inside, strip, drawn}
+use Rattle.surface.specs.Meaning.{spans, inside, strip, drawn}
 use Rattle.raster.specs.Bits.{among}
 use Rattle.raster.specs.Layout.{has-row, has, laid, Redrawn, others, row-there}
 

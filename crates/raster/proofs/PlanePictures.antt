@@ -1,12 +1,12 @@
 -- From painted planes to a picture of four bits a cell.
-use Rattle.std.proofs.Common.{◌≡◌, ℕ, ◌+◌, ◌-◌, ◌*◌, ◌/◌, ◌%◌, ◌^◌, ◌<◌, ◌≤◌, Bool, true, false, cond, ◌&&◌, ltb, leb, List, length, ℤ, pos, negsuc, nat_abs, sym, refl, ap, ◌∙◌, subst, ⊎_elim, add-mul, mul_left_comm, arith}
+use Rattle.std.proofs.Common.{◌≡◌, ℕ, ◌+◌, ◌*◌, ◌/◌, ◌%◌, ◌^◌, ◌<◌, ◌≤◌, Bool, true, false, cond, ◌&&◌, ltb, leb, List, length, ℤ, pos, negsuc, nat_abs, sym, refl, ◌∙◌, subst, ⊎_elim, mul_left_comm, arith}
 use base.Fml.{GName}
 use Rattle.std.proofs.lemmas.Nat.{le-div, mod-pow-add}
-use Rattle.std.proofs.lemmas.Bool.{cases_Bool, and_parts, and_left, and_right, false≢true, leb-true, cases_lt, cases_eq, lt-ltb, le-ltb}
+use Rattle.std.proofs.lemmas.Bool.{cases_Bool, and_left, and_right, false≢true, cases_lt, lt-ltb, le-ltb}
 use Rattle.std.proofs.lemmas.Bool.Decides.{nat_tests}
 use Rattle.surface.specs.Meaning.{spans, strip, drawn}
 use Rattle.raster.specs.Bits.{bit_of, among, Painted}
-use Rattle.raster.specs.Layout.{has-row, has, laid, Redrawn}
+use Rattle.raster.specs.Layout.{has-row, has, laid}
 use Rattle.raster.specs.Packing.{stride}
 use Rattle.raster.specs.Planar.{plane, planes_there, four, planar, planar_rest, celled, Planed, PlanesDrawn}
 use Rattle.raster.proofs.Layouts.{in_row, row_of, redrawn_picture, reach, miss}

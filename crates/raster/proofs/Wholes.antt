@@ -1,15 +1,13 @@
 -- A picture and what no draw changes are together all of a memory.
-use Rattle.std.proofs.Common.{◌≡◌, ℕ, ◌+◌, ◌*◌, ◌/◌, ◌%◌, ◌<◌, Bool, true, false, cond, ◌&&◌, ltb, List, length, get_or, ℤ, pos, sym, refl, ap, ◌∙◌, ⊎_elim, add-mul, arith}
-use base.Fml.{GName}
+use Rattle.std.proofs.Common.{◌≡◌, ℕ, ◌+◌, ◌*◌, ◌/◌, ◌%◌, ◌<◌, Bool, true, false, cond, ltb, List, length, get_or, ℤ, pos, sym, refl, ap, ◌∙◌, ⊎_elim, add-mul, arith}
 use Rattle.std.proofs.lemmas.Nat.{div-add-mod', mul-le}
 use Rattle.std.proofs.lemmas.Bool.{cases_Bool, cases_eq, and_parts, ltb-true, lt-ltb}
 use Rattle.surface.specs.Meaning.{spans}
 use Rattle.raster.specs.Bits.{bit_of}
-use Rattle.raster.specs.Bytewise.{bytewise, bytewise_rest}
 use Rattle.raster.specs.Laws.{PackedWhole, BytewiseWhole, PlanarWhole}
 use Rattle.raster.specs.Layout.{has-row, has, laid, others, row-there}
-use Rattle.raster.specs.Packing.{stride, there, packed, packed_rest}
-use Rattle.raster.specs.Planar.{plane, planes_there, four, celled, planar, planar_rest}
+use Rattle.raster.specs.Packing.{stride, there}
+use Rattle.raster.specs.Planar.{plane, planes_there, four, celled}
 use Rattle.raster.proofs.Layouts.{natural, row_of}
 
 -- a unit is a cell's, or one of the others

@@ -1,6 +1,6 @@
 -- A picture that lies in a memory row after row, in units that are bits or bytes: p units a row, of which the first w are
 -- its cells, so that unit i stands in column i % p of row i / p.
-use Rattle.std.specs.Prelude.{◌≡◌, ℕ, ◌+◌, ◌*◌, ◌/◌, ◌%◌, ◌^◌, ◌≤◌, Bool, cond, ◌&&◌, ℤ, pos, Ok, Err, Result, nat_le, unsigned_abs}
+use Rattle.std.specs.Prelude.{◌≡◌, ℕ, ◌+◌, ◌*◌, ◌/◌, ◌%◌, ◌^◌, Bool, cond, ◌&&◌, ℤ, pos, Ok, Err, Result, nat_le, unsigned_abs}
 use Rattle.std.specs.Borrow.{GName}
 use Rattle.codes.specs.declared.refusal.Refusal.{Refusal}
 use Rattle.codes.specs.declared.refusal.Refusal.TheVariants.{Size, Memory}

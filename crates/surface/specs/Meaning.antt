@@ -1,5 +1,5 @@
 -- What a surface means: its size, its depth, the word of every cell, and which cells are open.
-use Rattle.std.specs.Prelude.{◌≡◌, ℕ, ◌+◌, ◌*◌, ◌/◌, ◌%◌, ◌^◌, ◌<◌, ◌≤◌, Bool, true, false, cond, ◌&&◌, ℤ, pos, ◌+ℤ◌, int_le, int_lt}
+use Rattle.std.specs.Prelude.{◌≡◌, ℕ, ◌%◌, ◌^◌, ◌<◌, ◌≤◌, Bool, false, cond, ◌&&◌, ℤ, pos, ◌+ℤ◌, int_le, int_lt}
 
 pub record Meaning : Type 0 where
   pub width : ℕ

@@ -1,4 +1,4 @@
-use Rattle.std.proofs.Common.{◌≡◌, refl}
+use Rattle.std.proofs.Common.{refl}
 use Rattle.drawing.specs.Tasks.{line_task, paint_task, copy_task}
 use Rattle.calls.proofs.Draughting.{draughts}
 use Rattle.calls.proofs.making.make.Goals as goal

@@ -1,8 +1,8 @@
-use Rattle.std.proofs.Common.{◌≡◌, ◌+◌, ◌≤◌, [], ◌∷◌, ◌++◌, length, sym, refl, ap, ◌∙◌, subst, arith}
+use Rattle.std.proofs.Common.{◌+◌, ◌≤◌, [], ◌∷◌, ◌++◌, length, sym, refl, ap, ◌∙◌, subst, arith}
 use Rattle.player.specs.Runs.{Steps}
 use Rattle.player.specs.declared.whole.Step.{Step}
 use Rattle.player.proofs.Wholes.{going_none, going_next, moves, ongoing_push}
-use Rattle.capi.specs.Listening.{earlier, record_fault, first_refused}
+use Rattle.capi.specs.Listening.{earlier, record_fault}
 use Rattle.capi.proofs.Firsts.{first_push}
 use Rattle.capi.proofs.listening.play_listening.Goals as goal
 

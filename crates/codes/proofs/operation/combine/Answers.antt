@@ -1,4 +1,4 @@
-use Rattle.std.proofs.Common.{◌≡◌, ℕ, ◌+◌, ◌*◌, ◌<◌, ◌∙◌, arith}
+use Rattle.std.proofs.Common.{◌+◌, ◌*◌, arith}
 use Rattle.codes.specs.Bits.{bit}
 use Rattle.codes.specs.Operations.{combined}
 use Rattle.codes.proofs.Words.{word_is, tree}

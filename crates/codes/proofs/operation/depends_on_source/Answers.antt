@@ -1,4 +1,4 @@
-use Rattle.std.proofs.Common.{ℕ, ◌/◌, not, eqb, refl, rules}
+use Rattle.std.proofs.Common.{◌/◌, not, eqb, refl, rules}
 use lib.Bits.{bit_and, bit_xor}
 use Rattle.codes.specs.Operations.{sourced}
 use Rattle.codes.proofs.Words.{every-at, alike, alike_same}

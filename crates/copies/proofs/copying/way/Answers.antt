@@ -1,4 +1,4 @@
-use Rattle.std.proofs.Common.{◌-ℤ◌, w32, SFits, rules}
+use Rattle.std.proofs.Common.{w32, SFits, rules}
 use Rattle.std.proofs.lemmas.Int.{to_z-of_z}
 use Rattle.copies.proofs.Sources.{parts, way_fits}
 use Rattle.copies.proofs.copying.way.Goals as goal

@@ -1,5 +1,5 @@
-use Rattle.std.proofs.Common.{◌≡◌, pos, ◌-ℤ◌, arith, w32, SFits, rules}
-use Rattle.std.proofs.lemmas.Int.{ints, to_z-of_z}
+use Rattle.std.proofs.Common.{w32, SFits, rules}
+use Rattle.std.proofs.lemmas.Int.{to_z-of_z}
 use Rattle.drawing.proofs.Cuts.{apart_fits, breadth_is}
 use Rattle.drawing.proofs.filling.breadth.Goals as goal
 

@@ -1,4 +1,4 @@
-use Rattle.std.proofs.Common.{◌≡◌, ℕ, cond, length, pos, sym, ap, ◌∙◌, lit<}
+use Rattle.std.proofs.Common.{◌≡◌, length, lit<}
 use Rattle.codes.specs.Bits.{of_bits}
 use Rattle.codes.specs.Operations.{combined}
 use Rattle.examples.proofs.Cells.{cell_is}

@@ -1,4 +1,4 @@
-use Rattle.std.proofs.Common.{◌≡◌, pos, ap, ◌∙◌, rules}
+use Rattle.std.proofs.Common.{◌≡◌, pos, ap, rules}
 use Rattle.raster.specs.Layout.{Untouched}
 use Rattle.raster.specs.Bytewise.{bytewise}
 use Rattle.examples.specs.Pictures.{moved}

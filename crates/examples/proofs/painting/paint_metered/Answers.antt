@@ -1,4 +1,4 @@
-use Rattle.std.proofs.Common.{◌≡◌, ◌&&◌, sym, ap, ◌∙◌, subst, rules}
+use Rattle.std.proofs.Common.{◌≡◌, ◌&&◌, ap, ◌∙◌, subst, rules}
 use Rattle.surface.specs.Rects.{Kept, bounds}
 use Rattle.examples.specs.Pictures.{block, painted}
 use Rattle.examples.proofs.Bounds.{grown_is}

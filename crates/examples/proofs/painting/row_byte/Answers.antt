@@ -1,4 +1,3 @@
-use Rattle.pbm.specs.Bitmap.{row, octet}
 use Rattle.examples.proofs.Cells.{row_is}
 use Rattle.examples.proofs.painting.row_byte.Goals as goal
 

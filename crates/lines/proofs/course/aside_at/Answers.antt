@@ -1,4 +1,4 @@
-use Rattle.std.proofs.Common.{◌<◌, ◌≤◌, arith, rules}
+use Rattle.std.proofs.Common.{arith}
 use Rattle.lines.proofs.Traces.{aside_of}
 use Rattle.lines.proofs.course.aside_at.Goals as goal
 

@@ -1,4 +1,4 @@
-use Rattle.std.proofs.Common.{pos, ◌+ℤ◌, ◌-ℤ◌, w64, SFits, rules}
+use Rattle.std.proofs.Common.{w64, SFits, rules}
 use Rattle.std.proofs.lemmas.Int.{to_z-of_z}
 use Rattle.lines.proofs.Traces.{falling, rising, gap_fits, more-fits, down-first, down-last, up_first, up_last}
 use Rattle.lines.proofs.course.reach.Goals as goal

@@ -1,4 +1,4 @@
-use Rattle.std.proofs.Common.{◌≡◌, ◌+◌, ◌*◌, ◌<◌, ◌≤◌, ◌&&◌, sym, ap, ◌∙◌, add-one, arith}
+use Rattle.std.proofs.Common.{◌≡◌, ◌&&◌, ap, ◌∙◌, add-one, arith}
 use Rattle.surface.specs.Rects.{holds}
 use Rattle.surface.proofs.Strokes.{drawn-none, drawn_like}
 use Rattle.drawing.specs.Lines.{traced}

@@ -1,4 +1,4 @@
-use Rattle.std.proofs.Common.{◌≡◌, ℕ, ◌+◌, ◌*◌, ◌<◌, refl, arith, rules}
+use Rattle.std.proofs.Common.{ℕ, ◌+◌, ◌*◌, ◌<◌, refl, arith, rules}
 use Rattle.pbm.specs.Bitmap.{pixel, binary}
 use Rattle.pbm.proofs.Pixels.{pixel-bit, binary_more, binary_small}
 use Rattle.pbm.proofs.row.octet.Goals as goal

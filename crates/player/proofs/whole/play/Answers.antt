@@ -1,4 +1,4 @@
-use Rattle.std.proofs.Common.{◌≡◌, ◌+◌, ◌-◌, ◌/◌, ◌<◌, ◌≤◌, true, false, ◌⊎◌, length, vec_items, sym, refl, ap, ◌∙◌, subst, inl, inr, arith}
+use Rattle.std.proofs.Common.{◌+◌, ◌≤◌, length, vec_items, sym, refl, ap, ◌∙◌, subst, inl, inr, arith}
 use Rattle.player.specs.Playing.{ongoing}
 use Rattle.player.specs.Runs.{Steps}
 use Rattle.player.proofs.Wholes.{going_none, going_next, moves, ongoing_push, room}

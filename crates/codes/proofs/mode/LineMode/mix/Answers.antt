@@ -1,4 +1,4 @@
-use Rattle.std.proofs.Common.{◌≡◌, ℕ, ◌+◌, ◌-◌, ◌*◌, ◌%◌, ◌<◌, ap, ◌∙◌, arith}
+use Rattle.std.proofs.Common.{◌+◌, ◌-◌, ◌*◌, arith}
 use Rattle.codes.specs.Bits.{bit}
 use Rattle.codes.specs.Modes.{mode_number}
 use Rattle.codes.specs.Operations.{mixed}

@@ -1,5 +1,4 @@
 use Rattle.std.proofs.lemmas.Result.{err_from_is_err_and}
-use Rattle.std.proofs.lemmas.Int.{to_z-of_z}
 use Rattle.playback.proofs.Performing.{refused_happens, done_happens}
 use Rattle.playback.proofs.context.DeviceContext.line_to.Goals as goal
 

@@ -1,4 +1,4 @@
-use Rattle.std.proofs.Common.{◌≡◌, ◌<◌, true, false, get_or, sym, arith, rules}
+use Rattle.std.proofs.Common.{◌≡◌, ◌<◌, false, get_or, sym, arith, rules}
 use Rattle.playback.specs.Objects.{size, vacant}
 use Rattle.playback.specs.declared.objects.Slot.TheVariants.{Empty}
 use Rattle.playback.proofs.Lowest.{lowest_more, lowest-found}

@@ -1,11 +1,11 @@
-use Rattle.std.proofs.Common.{◌≡◌, ℕ, ◌+◌, ◌*◌, ◌<◌, ◌≤◌, true, false, length, pos, nat_abs, refl, subst, mul_left_comm, arith, w32}
+use Rattle.std.proofs.Common.{◌≡◌, ℕ, ◌+◌, ◌*◌, ◌<◌, ◌≤◌, true, false, pos, nat_abs, refl, subst, mul_left_comm, arith, w32}
 use Rattle.std.proofs.lemmas.Int.{to_z-of_z}
 use Rattle.surface.specs.Meaning.{spans}
 use Rattle.surface.specs.Rects.Kept.{still}
 use Rattle.raster.specs.Bits.{among}
 use Rattle.raster.specs.Layout.{has-row}
 use Rattle.raster.specs.Packing.{stride}
-use Rattle.raster.specs.Planar.{plane, planes_there, Planed}
+use Rattle.raster.specs.Planar.{planes_there}
 use Rattle.raster.proofs.PlanePictures.{planed_at, planes-row, planes-none, planar-picture, planar_spared}
 use Rattle.raster.proofs.planes.PlanesSurface.fill.Goals as goal
 
