@@ -1,6 +1,6 @@
 /* Dierwolp for C: plays Windows metafiles on pictures in the caller's memory.
  *
- * Link with the static library of the crate `capi` (`rt staticlib capi` writes target/staticlib/libcapi.a). Nothing allocates, and
+ * Link with the static library of the crate `capi_c` (`tools/build capi` writes target/staticlib/libcapi.a). Nothing allocates, and
  * nothing is asked of a caller but that each pointer has the length that comes with it; a length of 0 may have a null pointer. */
 #ifndef DIERWOLP_H
 #define DIERWOLP_H

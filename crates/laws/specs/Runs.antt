@@ -1,6 +1,6 @@
 -- Laws of whole runs.
 use Rattle.std.specs.Prelude.{◌≡◌, ℕ, ◌+◌, ◌≤◌, Bool, true, false, cond, ◌⊎◌, List, [], ◌∷◌, length, ℤ, pos, negsuc, ◌≤ℤ◌, Ok, Err, Result}
-use Rattle.std.specs.List.{AllByRecursion as All}
+use Rattle.std.specs.List.{AllByRecursion}
 use Rattle.codes.specs.Refusals.{numbered}
 use Rattle.codes.specs.declared.refusal.Refusal.TheVariants.{Frame}
 use Rattle.surface.specs.Meaning.{Meaning}
@@ -93,7 +93,7 @@ pub record Rightly (file : List ℕ) (s : Step) : Type 0 where
 
 abbrev pub Answers : Type 0
 Answers = (view : ℕ → ℕ) (file : List ℕ) (t : Progress) (m : Meaning) (steps : List Step) (t' : Progress) (m' : Meaning) (cells : ℤ → ℤ → Bool)
-    → Plays view file t m steps t' m' cells → Standing file t → All (Rightly file) steps × Standing file t'
+    → Plays view file t m steps t' m' cells → Standing file t → AllByRecursion (Rightly file) steps × Standing file t'
 
 -- a run that begins stands so
 abbrev pub Starts : Type 0
@@ -101,7 +101,7 @@ Starts = (file : List ℕ) (place slots : ℕ) → Standing file (begun place sl
 
 -- From an end on, every step answers ended and nothing changes.
 pub record Still (t : Progress) (m : Meaning) (steps : List Step) (t' : Progress) (m' : Meaning) (cells : ℤ → ℤ → Bool) : Type 0 where
-  pub answers : All (λ s. s ≡ record { place = t.place; answer = Ok answer.Ended }) steps
+  pub answers : AllByRecursion (λ s. s ≡ record { place = t.place; answer = Ok answer.Ended }) steps
   pub progress : t' ≡ t
   pub picture : m' ≡ m
   pub untouched : (x y : ℤ) → cells x y ≡ false
@@ -133,4 +133,4 @@ pub record Performed {S R : Type 0} (means : S → Meaning) (keeps : S → Keep)
   pub taken : counts.taken ≡ number was_taken steps
   pub refused : counts.refused ≡ number was_refused steps
   pub passed_over : counts.passed_over ≡ number was_passed_over steps
-  pub rightly : All (Rightly file) steps
+  pub rightly : AllByRecursion (Rightly file) steps
