@@ -22,7 +22,7 @@ WORDS = set(
     "le_z lt_z length take drop append map reverse slice_set slice_index get_or bit_and bit_or bit_xor cond eqb not".split()
 )
 
-# Two that the rules alone would give the name of another, and a module that was dotted.
+# Names that the rules alone would give the name of another, definitions that the rules would leave with a dash, and a module that was dotted.
 GIVEN = {
     "One-outcome": "OneSmallest",
     "record·of": "RecordOf",
@@ -33,6 +33,15 @@ GIVEN = {
     "mode-number": "mode_number-mode_at",
     "style-number": "style_number-style_at",
     "seen-record": "shown_record",
+    "device-rect": "device_rect",
+    "found-end": "found_end",
+    "found-outcome": "found_outcome",
+    "has-row": "has_row",
+    "row-there": "row_there",
+    "first-refused": "first_refused",
+    "packed-spare": "packed_spare",
+    "bytes-spare": "bytes_spare",
+    "planes-spare": "planes_spare",
     "planes-fit": "planes_fit_lem",
     "stop-of": "stop_of_lem",
 }

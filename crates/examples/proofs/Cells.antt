@@ -6,7 +6,7 @@ use Rattle.std.specs.List.{range_with_len}
 use Rattle.codes.specs.declared.refusal.Refusal.{Refusal}
 use Rattle.surface.specs.Meaning.{Meaning}
 use Rattle.raster.specs.Bits.{bit_of}
-use Rattle.raster.specs.Layout.{has, row-there}
+use Rattle.raster.specs.Layout.{has, row_there}
 use Rattle.raster.specs.Packing.{packed, there}
 use Rattle.raster.specs.Bytewise.{bytewise}
 use Rattle.pbm.specs.Bitmap.{answer, celled, octet, row, Wrote}
@@ -14,7 +14,7 @@ use Rattle.pbm.specs.Bitmap.{answer, celled, octet, row, Wrote}
 -- a byte of a row of five
 pub cell_is : (m : List ℕ) (n : Meaning) → length m ≡ 5 → bytewise 5 1 m ≡ n → (x v : ℕ) → x < 5 → v ≡ get_or m x 0 → v < 256 → v ≡ n.word (pos x) (pos 0)
 cell_is m n l p x v h e s =
-    let o : has 5 1 (row-there 5 (length m)) (pos x) (pos 0) ≡ true = grind (arith, ints, nat_tests) in
+    let o : has 5 1 (row_there 5 (length m)) (pos x) (pos 0) ≡ true = grind (arith, ints, nat_tests) in
     let q : 0 * 5 + x ≡ x = omega arith in
     let r : v % 256 ≡ v = omega arith in
     let a : v ≡ (bytewise 5 1 m).word (pos x) (pos 0) = cc in

@@ -17,5 +17,5 @@ device o p = record {
 abbrev pub device_area : Origins → LogicalPoint → ℤ → ℤ → Area
 device_area o p w h = record { x = (device o p).x; y = (device o p).y; w = w; h = h }
 
-abbrev pub device-rect : Origins → LogicalPoint → LogicalPoint → Rect
-device-rect o p q = record { left = (device o p).x; top = (device o p).y; right = (device o q).x; bottom = (device o q).y }
+abbrev pub device_rect : Origins → LogicalPoint → LogicalPoint → Rect
+device_rect o p q = record { left = (device o p).x; top = (device o p).y; right = (device o q).x; bottom = (device o q).y }

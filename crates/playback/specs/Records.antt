@@ -11,7 +11,7 @@ use Rattle.drawing.specs.Tasks.{Task, refuse, draw, line_task, paint_task, copy_
 use Rattle.metafile.specs.declared.record.Record.{Record}
 use Rattle.metafile.specs.declared.record.Record.TheVariants as RecordOf
 use Rattle.playback.specs.Objects.{put_in, put_answer, removed, remove_answer, slot_at}
-use Rattle.playback.specs.Places.{device, device_area, device-rect}
+use Rattle.playback.specs.Places.{device, device_area, device_rect}
 use Rattle.playback.specs.Contexts.{with_position, with_origins, with_pencil, with_objects, with_mode, with_back, select_in, select_answer}
 use Rattle.playback.specs.declared.answer.Answer.{Answer}
 use Rattle.playback.specs.declared.answer.Answer.TheVariants.{Taken, PassedOver, Ended}
@@ -73,7 +73,7 @@ plays (RecordOf.LineTo x y) c = line_to (record { x = x; y = y }) c
 plays (RecordOf.PatBlt code x y w h) c = pat_blt code (record { x = x; y = y }) w h c
 plays (RecordOf.BitBlt code x y w h sx sy) c = bit_blt code (record { x = x; y = y }) w h (record { x = sx; y = sy }) c
 plays (RecordOf.IntersectClipRect l t r b) c =
-    changed (with_pencil (with_clip (overlap c.pencil.clip (device-rect c.origins (record { x = l; y = t }) (record { x = r; y = b }))) c.pencil) c)
+    changed (with_pencil (with_clip (overlap c.pencil.clip (device_rect c.origins (record { x = l; y = t }) (record { x = r; y = b }))) c.pencil) c)
 plays (RecordOf.SetRop2 m) c = changed (with_pencil (with_mode m c.pencil) c)
 plays (RecordOf.SetBkColor w) c = changed (with_pencil (with_back w c.pencil) c)
 plays (RecordOf.CreateBrushIndirect b) c = allowed (put_answer c.objects) (with_objects (put_in (slot.Brush b) c.objects) c) c

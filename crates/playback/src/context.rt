@@ -1,5 +1,5 @@
 ghost use Rattle.std.specs.Prelude.{◌≡◌, ◌+ℤ◌, ◌-ℤ◌};
-ghost use Rattle.playback.specs.Places.{device, device_area, device-rect};
+ghost use Rattle.playback.specs.Places.{device, device_area, device_rect};
 ghost use Rattle.playback.specs.Contexts.{initial};
 
 use crate::objects::ObjectTable;
@@ -54,7 +54,7 @@ impl Origins {
 
     // The cells of a rectangle between two logical corners.
     pub(crate) fn rect(self, near: LogicalPoint, far: LogicalPoint) -> Rect
-        ensures { result ≡ device-rect self near far }
+        ensures { result ≡ device_rect self near far }
     {
         let near = self.device(near);
         let far = self.device(far);

@@ -11,7 +11,7 @@ use Rattle.metafile.specs.declared.record.Record.TheVariants as of
 use Rattle.playback.specs.Records.{untouched, plays}
 use Rattle.playback.specs.declared.answer.Answer.{Answer}
 use Rattle.player.specs.Finding.{FoundAt}
-use Rattle.player.specs.Runs.{Obeys, Stepped, found-end, found-outcome, past, with_context, broken, played}
+use Rattle.player.specs.Runs.{Obeys, Stepped, found_end, found_outcome, past, with_context, broken, played}
 use Rattle.player.specs.Views.{seen_brush, seen_pen, seen_record}
 use Rattle.player.specs.declared.fault.StepFault.{StepFault}
 use Rattle.player.specs.declared.finding.Found.{Found}
@@ -48,7 +48,7 @@ same_record (of.Unlisted f rest) = refl
 module _ {S R : Type 0} (means : S → Meaning) (keeps : S → Keep) (rest : S → R) (file : List ℕ) (t t' : Progress) (s s' : S) (a : Result Answer StepFault) where
   -- what was found was played
   pub found-steps : (f : Found) → t.phase ≡ Playing → FoundAt file t.place f
-      → Obeys means keeps rest (found-end f) (found-outcome f t.context) a t t' s s' → Stepped means keeps rest (λ w. w) file t s a t' s'
+      → Obeys means keeps rest (found_end f) (found_outcome f t.context) a t t' s s' → Stepped means keeps rest (λ w. w) file t s a t' s'
   found-steps (found.Record r e) p f o =
       let k = plays r t.context in
       (k.mark, played r k p f.0 (ap (λ r. plays r t.context) (sym (same_record r))) o.answer (o.progress ∙ ap (λ e. past e k.answer (with_context k.context t)) f.1) refl, o.surface)

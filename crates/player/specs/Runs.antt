@@ -70,13 +70,13 @@ pub record Obeys {S R : Type 0} (means : S → Meaning) (keeps : S → Keep) (re
   pub surface : Marks means keeps rest o.mark s s'
 
 -- the outcome of what was found, and where it ends
-abbrev pub found-outcome : Found → DeviceContext → Outcome
-found-outcome (found.Record r e) c = plays r c
-found-outcome (found.Broken b e) c = record { answer = Err b; context = c; mark = untouched }
+abbrev pub found_outcome : Found → DeviceContext → Outcome
+found_outcome (found.Record r e) c = plays r c
+found_outcome (found.Broken b e) c = record { answer = Err b; context = c; mark = untouched }
 
-abbrev pub found-end : Found → ℕ
-found-end (found.Record r e) = e
-found-end (found.Broken b e) = e
+abbrev pub found_end : Found → ℕ
+found_end (found.Record r e) = e
+found_end (found.Broken b e) = e
 
 -- what the file tells of the next step
 abbrev pub Tells : List ℕ → Progress → Result Question StepFault → Type 0

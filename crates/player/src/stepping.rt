@@ -1,5 +1,5 @@
 ghost use Rattle.std.specs.Prelude.{◌≡◌, ◌+◌, ◌^◌, ◌<◌, ◌≤◌};
-ghost use Rattle.player.specs.Runs.{total, begun, found-end, found-outcome, Obeys, Stepped, Tells, Foretells};
+ghost use Rattle.player.specs.Runs.{total, begun, found_end, found_outcome, Obeys, Stepped, Tells, Foretells};
 
 use crate::fault::{RecordFault, StepFault};
 use crate::finding::{Found, find};
@@ -40,8 +40,8 @@ pub enum Question<'a> {
 impl Progress {
     // Plays what was found at the place.
     fn obey<S: Surface>(&mut self, found: Found<'_>, surface: &mut S) -> Result<Answer, StepFault>
-        requires { (total self.old.counts + 1 < 2 ^ 64) × (self.old.place < found-end found) }
-        ensures obeyed { Obeys S.means S.keeps S.rest (found-end found.entry) (found-outcome found.entry self.old.context) result self.old self.new surface.old surface.new }
+        requires { (total self.old.counts + 1 < 2 ^ 64) × (self.old.place < found_end found) }
+        ensures obeyed { Obeys S.means S.keeps S.rest (found_end found.entry) (found_outcome found.entry self.old.context) result self.old self.new surface.old surface.new }
         ensures counted { total self.new.counts + self.old.place ≤ total self.old.counts + self.new.place }
     {
         let place = self.place;

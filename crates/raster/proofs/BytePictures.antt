@@ -7,7 +7,7 @@ use Rattle.std.proofs.lemmas.Bool.{and_parts, leb-true, cases_lt}
 use Rattle.std.proofs.lemmas.Bool.Decides.{nat_tests}
 use Rattle.surface.specs.Meaning.{spans, strip, drawn}
 use Rattle.raster.specs.Bits.{among}
-use Rattle.raster.specs.Layout.{has-row, laid, Redrawn, others, row-there}
+use Rattle.raster.specs.Layout.{has_row, laid, Redrawn, others, row_there}
 use Rattle.raster.specs.Bytewise.{bytes_fit, bytewise, bytewise_rest, BytesDrawn}
 use Rattle.raster.proofs.Layouts.{row_fits, redrawn_none, redrawn_row, redrawn_picture, redrawn_others}
 
@@ -48,12 +48,12 @@ pub fit_memory : (w h n : ℕ) → bytes_fit w h n ≡ true → h * w ≤ n
 fit_memory w h n t = leb-true _ _ (and_parts _ _ t).1
 
 module _ (w h : ℕ) (m : List ℕ) where
-  pub rewritten_none : (x y : ℤ) (n v : ℕ) → has-row h (row-there w (length m)) y ≡ false → BytesDrawn w h m (strip x y n) v m
+  pub rewritten_none : (x y : ℤ) (n v : ℕ) → has_row h (row_there w (length m)) y ≡ false → BytesDrawn w h m (strip x y n) v m
   rewritten_none x y n v none =
-      record { long = refl; bytes = redrawn_none w h w 8 (row-there w (length m)) (omega arith) (λ i. get_or m i 0) x y n v none }
+      record { long = refl; bytes = redrawn_none w h w 8 (row_there w (length m)) (omega arith) (λ i. get_or m i 0) x y n v none }
 
   pub rewritten_row : (ys : List ℕ) (x y : ℤ) (n v start from to : ℕ)
-      → has-row h (row-there w (length m)) y ≡ true → start ≡ nat_abs y * w → from ≤ to → to ≤ w → ((k : ℕ) → k < w → spans x n (pos k) ≡ among from to k)
+      → has_row h (row_there w (length m)) y ≡ true → start ≡ nat_abs y * w → from ≤ to → to ≤ w → ((k : ℕ) → k < w → spans x n (pos k) ≡ among from to k)
       → ys ≡ replicate (length (take (start + to - (start + from)) (drop (start + from) m))) (v % 256)
       → BytesDrawn w h m (strip x y n) v (put_mid (start + from) (start + to - (start + from)) m ys)
   rewritten_row ys x y n v start from to row s ft tw same f =
@@ -63,22 +63,22 @@ module _ (w h : ℕ) (m : List ℕ) where
       let new = put_mid (start + from) (start + to - (start + from)) m ys in
       record {
         long = fill_length m ys (start + from) (start + to) (v % 256) a em f;
-        bytes = redrawn_row w h w 8 (row-there w (length m)) (omega arith) (λ i. get_or m i 0) (λ i. get_or new i 0) x y n v from to row tw same
+        bytes = redrawn_row w h w 8 (row_there w (length m)) (omega arith) (λ i. get_or m i 0) (λ i. get_or new i 0) x y n v from to row tw same
             (λ i. let t = fill_at m ys (start + from) (start + to) (v % 256) a em f i in cc);
       }
 
   pub bytewise-picture : (new : List ℕ) (region : ℤ → ℤ → Bool) (v : ℕ) → BytesDrawn w h m region v new → bytewise w h new ≡ drawn region (λ _ _. v) (bytewise w h m)
   bytewise-picture new region v d =
-      let r : Redrawn w h w 8 (row-there w (length m)) region v (λ i. get_or m i 0 % 256) (λ i. get_or new i 0 % 256) =
+      let r : Redrawn w h w 8 (row_there w (length m)) region v (λ i. get_or m i 0 % 256) (λ i. get_or new i 0 % 256) =
       record { units = λ i. cut _ v _ _ (d.bytes.units i) } in
-      subst (λ n. laid w h w 8 (row-there w n) (λ i. get_or new i 0 % 256) ≡ drawn region (λ _ _. v) (bytewise w h m)) (sym d.long)
-      (redrawn_picture w h w 8 (row-there w (length m)) (omega arith) (λ i. get_or m i 0 % 256) (λ i. get_or new i 0 % 256) region v r)
+      subst (λ n. laid w h w 8 (row_there w n) (λ i. get_or new i 0 % 256) ≡ drawn region (λ _ _. v) (bytewise w h m)) (sym d.long)
+      (redrawn_picture w h w 8 (row_there w (length m)) (omega arith) (λ i. get_or m i 0 % 256) (λ i. get_or new i 0 % 256) region v r)
 
   pub bytewise_spared : (new : List ℕ) (region : ℤ → ℤ → Bool) (v : ℕ) (l : GName) → BytesDrawn w h m region v new → bytewise_rest w h new l ≡ bytewise_rest w h m l
   bytewise_spared new region v l d =
       let old : ℕ → ℕ = λ i. get_or m i 0 in
       let now : ℕ → ℕ = λ i. get_or new i 0 in
-      let spared : (i : ℕ) → others w h w (row-there w (length new)) now i ≡ others w h w (row-there w (length m)) old i =
-      λ i. subst (λ n. others w h w (row-there w n) now i ≡ others w h w (row-there w (length m)) old i) (sym d.long)
-      (redrawn_others w h w 8 (row-there w (length m)) (omega arith) old now region v d.bytes i) in
+      let spared : (i : ℕ) → others w h w (row_there w (length new)) now i ≡ others w h w (row_there w (length m)) old i =
+      λ i. subst (λ n. others w h w (row_there w n) now i ≡ others w h w (row_there w (length m)) old i) (sym d.long)
+      (redrawn_others w h w 8 (row_there w (length m)) (omega arith) old now region v d.bytes i) in
       λ j. record { width = w; height = h; bytes = d.long j; lender = l; spare = λ i. spared i j }

@@ -7,7 +7,7 @@ use Rattle.std.proofs.lemmas.Bool.{cases_eq, cases_lt, cases_Bool, and_parts, an
 use Rattle.std.proofs.lemmas.Bool.Decides.{nat_tests}
 use Rattle.surface.specs.Meaning.{spans, inside, strip, drawn}
 use Rattle.raster.specs.Bits.{among}
-use Rattle.raster.specs.Layout.{has-row, has, laid, Redrawn, others, row-there}
+use Rattle.raster.specs.Layout.{has_row, has, laid, Redrawn, others, row_there}
 
 and_true : (t : Bool) → (t && true) ≡ t
 and_true true = refl
@@ -25,9 +25,9 @@ column (pos a) k h = refl
 column (negsuc a) k h = absurd (false≢true h)
 
 -- a picture whose rows all lie in the memory has all its cells open
-pub all_open : (w h r n : ℕ) → h * r ≤ n → (x y : ℤ) → has w h (row-there r n) x y ≡ inside w h x y
+pub all_open : (w h r n : ℕ) → h * r ≤ n → (x y : ℤ) → has w h (row_there r n) x y ≡ inside w h x y
 all_open w h r n fit x y =
-    let row : has-row h (row-there r n) y ≡ spans (pos 0) h y =
+    let row : has_row h (row_there r n) y ≡ spans (pos 0) h y =
     ⊎_elim
     (λ t.
     let k = mul-le (nat_abs y + 1) r h r (omega (arith, (natural y h t).1)) (omega arith) in
@@ -37,7 +37,7 @@ all_open w h r n fit x y =
     (cases_Bool (spans (pos 0) h y)) in
     cc
 
-pub row_fits : (h r n : ℕ) (y : ℤ) → has-row h (row-there r n) y ≡ true → nat_abs y * r + r ≤ n
+pub row_fits : (h r n : ℕ) (y : ℤ) → has_row h (row_there r n) y ≡ true → nat_abs y * r + r ≤ n
 row_fits h r n y row = leb-true (nat_abs y * r + r) n (and_parts (spans (pos 0) h y) _ row).1
 
 -- unit i stands in row Y, of p units
@@ -56,11 +56,11 @@ module _ (w h p d : ℕ) (there : ℤ → Bool) (wp : w ≤ p) where
   blank unit x y s = let t : has w h there x y ≡ false = and_left _ _ s in rw t
 
   -- a strip of a row that is not there reaches nothing
-  pub miss : (i : ℕ) (x y : ℤ) (n : ℕ) → has-row h there y ≡ false → (strip x y n (pos (i % p)) (pos (i / p)) && has w h there (pos (i % p)) (pos (i / p))) ≡ false
+  pub miss : (i : ℕ) (x y : ℤ) (n : ℕ) → has_row h there y ≡ false → (strip x y n (pos (i % p)) (pos (i / p)) && has w h there (pos (i % p)) (pos (i / p))) ≡ false
   miss i x y n none =
       ⊎_elim
       (λ e.
-      let z : has-row h there (pos (i / p)) ≡ false = subst (λ z. has-row h there z ≡ false) (sym (one y (pos (i / p)) e)) none in
+      let z : has_row h there (pos (i / p)) ≡ false = subst (λ z. has_row h there z ≡ false) (sym (one y (pos (i / p)) e)) none in
       and_right (strip x y n (pos (i % p)) (pos (i / p))) _ (and_right (spans (pos 0) w (pos (i % p))) _ z))
       (λ e. and_left _ _ (and_left _ _ e))
       (cases_Bool (spans y 1 (pos (i / p))))
@@ -75,11 +75,11 @@ module _ (w h p d : ℕ) (there : ℤ → Bool) (wp : w ≤ p) where
       (λ e. and_left (strip x y 1 (pos (i % p)) (pos (i / p))) _ (and_right (spans y 1 (pos (i / p))) _ e))
       (cases_Bool (spans x 1 (pos (i % p))))
 
-  pub redrawn_none : (unit : ℕ → ℕ) (x y : ℤ) (n v : ℕ) → has-row h there y ≡ false → Redrawn w h p d there (strip x y n) v unit unit
+  pub redrawn_none : (unit : ℕ → ℕ) (x y : ℤ) (n v : ℕ) → has_row h there y ≡ false → Redrawn w h p d there (strip x y n) v unit unit
   redrawn_none unit x y n v none = record { units = λ i. let t = miss i x y n none in rw t }
 
   -- which units a strip of a row reaches: Y is the row, and from..to are its columns
-  module _ (i Y from to n : ℕ) (x : ℤ) (row : has-row h there (pos Y) ≡ true) (tw : to ≤ w) (same : (k : ℕ) → k < w → spans x n (pos k) ≡ among from to k) where
+  module _ (i Y from to n : ℕ) (x : ℤ) (row : has_row h there (pos Y) ≡ true) (tw : to ≤ w) (same : (k : ℕ) → k < w → spans x n (pos k) ≡ among from to k) where
     abbrev pub Reach : Type 0
     Reach =
         among (Y * p + from) (Y * p + to) i
@@ -89,7 +89,7 @@ module _ (w h p d : ℕ) (there : ℤ → Bool) (wp : w ≤ p) where
     within lo hi =
         let e = in_row p i Y lo hi in
         let u : spans (pos Y) 1 (pos (i / p)) ≡ true = grind (arith, nat_tests) in
-        let k : has-row h there (pos (i / p)) ≡ true = subst (λ z. has-row h there (pos z) ≡ true) (sym e.0) row in
+        let k : has_row h there (pos (i / p)) ≡ true = subst (λ z. has_row h there (pos z) ≡ true) (sym e.0) row in
         ⊎_elim
         (λ lt.
         let s = same (i % p) lt in
@@ -122,7 +122,7 @@ module _ (w h p d : ℕ) (there : ℤ → Bool) (wp : w ≤ p) where
         (cases_lt i (Y * p))
 
   pub redrawn_row : (old new : ℕ → ℕ) (x y : ℤ) (n v from to : ℕ)
-      → has-row h there y ≡ true → to ≤ w → ((k : ℕ) → k < w → spans x n (pos k) ≡ among from to k)
+      → has_row h there y ≡ true → to ≤ w → ((k : ℕ) → k < w → spans x n (pos k) ≡ among from to k)
       → ((i : ℕ) → new i ≡ cond (among (nat_abs y * p + from) (nat_abs y * p + to) i) (v % 2 ^ d) (old i))
       → Redrawn w h p d there (strip x y n) v old new
   redrawn_row old new x (pos Y) n v from to row tw same f =

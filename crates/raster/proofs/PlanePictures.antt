@@ -6,7 +6,7 @@ use Rattle.std.proofs.lemmas.Bool.{cases_Bool, and_left, and_right, false≢true
 use Rattle.std.proofs.lemmas.Bool.Decides.{nat_tests}
 use Rattle.surface.specs.Meaning.{spans, strip, drawn}
 use Rattle.raster.specs.Bits.{bit_of, among, Painted}
-use Rattle.raster.specs.Layout.{has-row, has, laid}
+use Rattle.raster.specs.Layout.{has_row, has, laid}
 use Rattle.raster.specs.Packing.{stride}
 use Rattle.raster.specs.Planar.{plane, planes_there, four, planar, planar_rest, celled, Planed, PlanesDrawn}
 use Rattle.raster.proofs.Layouts.{in_row, row_of, redrawn_picture, reach, miss}
@@ -65,7 +65,7 @@ narrower false t u e = refl
 
 module _ (w h : ℕ) (m : List ℕ) where
   pub planes-row : (new : List ℕ) (x y : ℤ) (n v start from to : ℕ)
-      → has-row h (planes_there w h m) y ≡ true → start ≡ nat_abs y * stride w → to ≤ w → ((k : ℕ) → k < w → spans x n (pos k) ≡ among from to k)
+      → has_row h (planes_there w h m) y ≡ true → start ≡ nat_abs y * stride w → to ≤ w → ((k : ℕ) → k < w → spans x n (pos k) ≡ among from to k)
       → length new ≡ length m → Planed (plane w h) (8 * start + from) (8 * start + to) v 4 m new → PlanesDrawn w h m (strip x y n) v new
   planes-row new x (pos Y) n v start from to row s tw same len p = record {
     long = len;
@@ -123,7 +123,7 @@ module _ (w h : ℕ) (m : List ℕ) where
       subst (λ l. laid w h (8 * stride w) 4 (λ _. leb (4 * (h * stride w)) l) (four n new) ≡ drawn region (λ _ _. v) (planar w h m)) (sym d.long)
       (redrawn_picture w h (8 * stride w) 4 (planes_there w h m) (omega arith) (four n m) (four n new) region v (record { units = unit_of new region v d }))
 
-  pub planes-none : (x y : ℤ) (n v : ℕ) → has-row h (planes_there w h m) y ≡ false → PlanesDrawn w h m (strip x y n) v m
+  pub planes-none : (x y : ℤ) (n v : ℕ) → has_row h (planes_there w h m) y ≡ false → PlanesDrawn w h m (strip x y n) v m
   planes-none x y n v none = record {
     long = refl;
     bits = λ i.

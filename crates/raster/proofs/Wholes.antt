@@ -5,7 +5,7 @@ use Rattle.std.proofs.lemmas.Bool.{cases_Bool, cases_eq, and_parts, ltb-true, lt
 use Rattle.surface.specs.Meaning.{spans}
 use Rattle.raster.specs.Bits.{bit_of}
 use Rattle.raster.specs.Laws.{PackedWhole, BytewiseWhole, PlanarWhole}
-use Rattle.raster.specs.Layout.{has-row, has, laid, others, row-there}
+use Rattle.raster.specs.Layout.{has_row, has, laid, others, row_there}
 use Rattle.raster.specs.Packing.{stride, there}
 use Rattle.raster.specs.Planar.{plane, planes_there, four, celled}
 use Rattle.raster.proofs.Layouts.{natural, row_of}
@@ -33,7 +33,7 @@ cut false false a b e = omega arith
 
 pub bytewise-whole : BytewiseWhole
 bytewise-whole w h m n l e r i =
-    laid-whole w h w 8 (row-there w (length m)) (row-there w (length n)) (λ i. get_or m i 0 % 256) (λ i. get_or n i 0 % 256) e i
+    laid-whole w h w 8 (row_there w (length m)) (row_there w (length n)) (λ i. get_or m i 0 % 256) (λ i. get_or n i 0 % 256) e i
     (cut _ _ _ _ (ap (λ t. t.spare i) r))
 
 sums : (a b c d a' b' c' d' : ℕ) → a < 2 → b < 2 → c < 2 → d < 2 → a' < 2 → b' < 2 → c' < 2 → d' < 2
@@ -73,7 +73,7 @@ planar-whole w h m n l e r i =
     (λ t.
     let k4 = ltb-true (i / N) 4 (and_parts (ltb (i / N) 4) (has w h (planes_there w h m) x y) t).0 in
     let c = (and_parts (ltb (i / N) 4) (has w h (planes_there w h m) x y) t).1 in
-    let v = and_parts (spans (pos 0) w x) (has-row h (planes_there w h m) y) c in
+    let v = and_parts (spans (pos 0) w x) (has_row h (planes_there w h m) y) c in
     let a = (natural x w v.0).1 in
     let b = (natural y h (and_parts (spans (pos 0) h y) (planes_there w h m y) v.1).0).1 in
     let o = row_of p q (q / p) (omega arith) refl in

@@ -7,11 +7,11 @@ use Rattle.codes.specs.declared.refusal.Refusal.TheVariants.{Size, Memory}
 use Rattle.surface.specs.Meaning.{Meaning, spans}
 
 -- row y is one of the picture's, and one of those that the memory has
-abbrev pub has-row : ℕ → (ℤ → Bool) → ℤ → Bool
-has-row h there y = spans (pos 0) h y && there y
+abbrev pub has_row : ℕ → (ℤ → Bool) → ℤ → Bool
+has_row h there y = spans (pos 0) h y && there y
 
 abbrev pub has : ℕ → ℕ → (ℤ → Bool) → ℤ → ℤ → Bool
-has w h there x y = spans (pos 0) w x && has-row h there y
+has w h there x y = spans (pos 0) w x && has_row h there y
 
 abbrev pub laid : ℕ → ℕ → ℕ → ℕ → (ℤ → Bool) → (ℕ → ℕ) → Meaning
 laid w h p d there unit = record {
@@ -40,8 +40,8 @@ pub record Untouched : Type 0 where
   pub spare : ℕ → ℕ
 
 -- a memory of so many bytes has all of row y, where each row has r bytes
-abbrev pub row-there : ℕ → ℕ → ℤ → Bool
-row-there r bytes y = nat_le (unsigned_abs y * r + r) bytes
+abbrev pub row_there : ℕ → ℕ → ℤ → Bool
+row_there r bytes y = nat_le (unsigned_abs y * r + r) bytes
 
 -- a picture may have this size
 abbrev pub sized : ℕ → ℕ → Bool

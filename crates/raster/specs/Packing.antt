@@ -3,7 +3,7 @@ use Rattle.std.specs.Prelude.{◌≡◌, ℕ, ◌+◌, ◌*◌, ◌/◌, Bool, �
 use Rattle.std.specs.Borrow.{GName}
 use Rattle.surface.specs.Meaning.{Meaning}
 use Rattle.raster.specs.Bits.{bit_of}
-use Rattle.raster.specs.Layout.{has-row, laid, Redrawn, others, Untouched, row-there, sized}
+use Rattle.raster.specs.Layout.{has_row, laid, Redrawn, others, Untouched, row_there, sized}
 use Rattle.raster.specs.declared.packed.Packed.{Packed}
 
 -- the bytes of a row
@@ -14,7 +14,7 @@ abbrev pub fits : ℕ → ℕ → ℕ → Bool
 fits w h bytes = sized w h && nat_le (h * stride w) bytes
 
 abbrev pub there : ℕ → List ℕ → ℤ → Bool
-there w m = row-there (stride w) (length m)
+there w m = row_there (stride w) (length m)
 
 abbrev pub packed : ℕ → ℕ → List ℕ → Meaning
 packed w h m = laid w h (8 * stride w) 1 (there w m) (bit_of m)
@@ -36,7 +36,7 @@ pub record PackedDrawn (w h : ℕ) (old : List ℕ) (region : ℤ → ℤ → Bo
 
 -- row y is one of the picture's that the memory has
 abbrev pub has_line : Packed → ℤ → Bool
-has_line s y = has-row s.size.height (there s.size.width s.memory.now) y
+has_line s y = has_row s.size.height (there s.size.width s.memory.now) y
 
 abbrev pub picture : Packed → Meaning
 picture s = packed s.size.width s.size.height s.memory.now

@@ -3,7 +3,7 @@ use Rattle.std.specs.Prelude.{◌≡◌, ℕ, ◌+◌, ◌*◌, ◌/◌, ◌%◌
 use Rattle.std.specs.Borrow.{GName}
 use Rattle.surface.specs.Meaning.{Meaning}
 use Rattle.raster.specs.Bits.{bit_of, among}
-use Rattle.raster.specs.Layout.{has-row, laid, has, Untouched, sized}
+use Rattle.raster.specs.Layout.{has_row, laid, has, Untouched, sized}
 use Rattle.raster.specs.Packing.{stride}
 use Rattle.raster.specs.declared.planes.Planes.{Planes}
 
@@ -53,7 +53,7 @@ planar_rest w h m lender = record {
 
 -- row y is one of the picture's that the memory has
 abbrev pub has_line : Planes → ℤ → Bool
-has_line s y = has-row s.size.height (planes_there s.size.width s.size.height s.memory.now) y
+has_line s y = has_row s.size.height (planes_there s.size.width s.size.height s.memory.now) y
 
 abbrev pub picture : Planes → Meaning
 picture s = planar s.size.width s.size.height s.memory.now

@@ -4,7 +4,7 @@ use Rattle.std.proofs.Common.{sym, ap, ◌∙◌, arith, eq-eqb, eqb-true}
 use Rattle.surface.specs.Meaning.{Frame, Sound, spans, inside, frame}
 use Rattle.raster.specs.Bits.{bit_of}
 use Rattle.raster.specs.Bytewise as bytes
-use Rattle.raster.specs.Layout.{laid, has, row-there, Untouched}
+use Rattle.raster.specs.Layout.{laid, has, row_there, Untouched}
 use Rattle.raster.specs.Packing as packed
 use Rattle.raster.specs.Packing.{stride, there}
 use Rattle.raster.specs.Planar as planes
@@ -62,7 +62,7 @@ pub bytes_sound : (s : Bytes) → Sound (bytes.picture s)
 bytes_sound s =
     let w = s.size.width in
     let m = s.memory.now in
-    laid_sound w s.size.height w 8 (row-there w (length m)) (λ i. slice_index m i % 256) (sides s.size) (omega arith) (omega arith) (omega arith) (λ i. omega arith)
+    laid_sound w s.size.height w 8 (row_there w (length m)) (λ i. slice_index m i % 256) (sides s.size) (omega arith) (omega arith) (omega arith) (λ i. omega arith)
 
 four_below : (t : Bool) (a b c d : ℕ) → a < 2 → b < 2 → c < 2 → d < 2 → cond t (a + 2 * b + 4 * c + 8 * d) 0 < 16
 four_below true a b c d p q r s = omega arith
@@ -80,12 +80,12 @@ planes_sound s =
 -- what no draw changes holds the frame
 pub packed-stays : (s t : Packed) → packed.untouched s ≡ packed.untouched t → frame (packed.picture s) ≡ frame (packed.picture t)
 packed-stays s t e =
-    let f : Untouched → Frame = λ r. record { width = r.width; height = r.height; depth = 1; opens = has r.width r.height (row-there (stride r.width) r.bytes) } in
+    let f : Untouched → Frame = λ r. record { width = r.width; height = r.height; depth = 1; opens = has r.width r.height (row_there (stride r.width) r.bytes) } in
     ap f e
 
 pub bytes_stays : (s t : Bytes) → bytes.untouched s ≡ bytes.untouched t → frame (bytes.picture s) ≡ frame (bytes.picture t)
 bytes_stays s t e =
-    let f : Untouched → Frame = λ r. record { width = r.width; height = r.height; depth = 8; opens = has r.width r.height (row-there r.width r.bytes) } in
+    let f : Untouched → Frame = λ r. record { width = r.width; height = r.height; depth = 8; opens = has r.width r.height (row_there r.width r.bytes) } in
     ap f e
 
 pub planes_stays : (s t : Planes) → planes.untouched s ≡ planes.untouched t → frame (planes.picture s) ≡ frame (planes.picture t)

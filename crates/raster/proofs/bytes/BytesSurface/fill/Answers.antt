@@ -3,7 +3,7 @@ use Rattle.std.proofs.lemmas.Int.{to_z-of_z}
 use Rattle.surface.specs.Meaning.{spans}
 use Rattle.surface.specs.Rects.Kept.{still}
 use Rattle.raster.specs.Bits.{among}
-use Rattle.raster.specs.Layout.{has-row, row-there}
+use Rattle.raster.specs.Layout.{has_row, row_there}
 use Rattle.raster.proofs.BytePictures.{rewritten_row, rewritten_none, bytewise-picture, bytewise_spared}
 use Rattle.raster.proofs.bytes.BytesSurface.fill.Goals as goal
 
@@ -13,7 +13,7 @@ returns-in-Some c =
     let h = c.args.self.now.size.height in
     let m = c.args.self.now.memory.now in
     let r =
-    subst (λ z. (has-row h (row-there w (length m)) z ≡ true) × (c.in-Some.start ≡ nat_abs z * w))
+    subst (λ z. (has_row h (row_there w (length m)) z ≡ true) × (c.in-Some.start ≡ nat_abs z * w))
     (to_z-of_z w32 c.args.y c.ranges.y) c.in-Some.ensures in
     let same =
     subst (λ z. (k : ℕ) → k < w → spans z c.args.n (pos k) ≡ among c.clip-from.result.0 c.clip-from.result.1 k)
@@ -26,6 +26,6 @@ returns-in_default c =
     let w = c.args.self.now.size.width in
     let h = c.args.self.now.size.height in
     let m = c.args.self.now.memory.now in
-    let r = subst (λ z. has-row h (row-there w (length m)) z ≡ false) (to_z-of_z w32 c.args.y c.ranges.y) c.in_default.ensures in
+    let r = subst (λ z. has_row h (row_there w (length m)) z ≡ false) (to_z-of_z w32 c.args.y c.ranges.y) c.in_default.ensures in
     let d = rewritten_none w h m c.args.x c.args.y c.args.n c.args.v r in
     record { picture = bytewise-picture w h m m _ c.args.v d; kept = still; rest = bytewise_spared w h m _ _ _ _ d; memory = d; lender = refl }

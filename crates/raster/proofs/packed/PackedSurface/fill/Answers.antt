@@ -5,7 +5,7 @@ use Rattle.std.proofs.lemmas.Bool.Decides.{nat_tests}
 use Rattle.surface.specs.Meaning.{spans}
 use Rattle.surface.specs.Rects.Kept.{still}
 use Rattle.raster.specs.Bits.{among}
-use Rattle.raster.specs.Layout.{has-row}
+use Rattle.raster.specs.Layout.{has_row}
 use Rattle.raster.specs.Packing.{there, stride}
 use Rattle.raster.proofs.Painting.{part_length, part_painted, painted-at}
 use Rattle.raster.proofs.Layouts.{row_fits}
@@ -18,7 +18,7 @@ returns-in-Some c =
     let h = c.args.self.now.size.height in
     let m = c.args.self.now.memory.now in
     let r =
-    subst (λ z. (has-row h (there w m) z ≡ true) × (c.in-Some.start ≡ nat_abs z * stride w))
+    subst (λ z. (has_row h (there w m) z ≡ true) × (c.in-Some.start ≡ nat_abs z * stride w))
     (to_z-of_z w32 c.args.y c.ranges.y) c.in-Some.ensures in
     let same =
     subst (λ z. (k : ℕ) → k < w → spans z c.args.n (pos k) ≡ among c.clip-from.result.0 c.clip-from.result.1 k)
@@ -36,6 +36,6 @@ returns-in_default c =
     let w = c.args.self.now.size.width in
     let h = c.args.self.now.size.height in
     let m = c.args.self.now.memory.now in
-    let r = subst (λ z. has-row h (there w m) z ≡ false) (to_z-of_z w32 c.args.y c.ranges.y) c.in_default.ensures in
+    let r = subst (λ z. has_row h (there w m) z ≡ false) (to_z-of_z w32 c.args.y c.ranges.y) c.in_default.ensures in
     let d = drawn-none w h m c.args.x c.args.y c.args.n c.args.v r in
     record { picture = packed-picture w h m m _ c.args.v d; kept = still; rest = packed_spared w h m _ _ _ _ d; memory = d; lender = refl }

@@ -4,7 +4,7 @@ use Rattle.std.proofs.lemmas.Int.{ints, to_z-of_z}
 use Rattle.std.proofs.lemmas.Bool.Decides.{nat_tests}
 use Rattle.surface.specs.Meaning.{spans}
 use Rattle.surface.specs.Rects.Kept.{still}
-use Rattle.raster.specs.Layout.{has-row}
+use Rattle.raster.specs.Layout.{has_row}
 use Rattle.raster.specs.Packing.{there, stride}
 use Rattle.raster.proofs.Painting.{painted-at}
 use Rattle.raster.proofs.Layouts.{column}
@@ -27,7 +27,7 @@ returns-in-Some c =
     let m = c.args.self.now.memory.now in
     let x = nat_abs c.args.x in
     let r =
-    subst (λ z. (has-row h (there w m) z ≡ true) × (c.in-Some.start ≡ nat_abs z * stride w))
+    subst (λ z. (has_row h (there w m) z ≡ true) × (c.in-Some.start ≡ nat_abs z * stride w))
     (to_z-of_z w32 c.args.y c.ranges.y) c.in-Some.ensures in
     let e : nat_abs (to_z w32 (of_z w32 c.args.x)) ≡ x = ap nat_abs (to_z-of_z w32 c.args.x c.ranges.x) in
     let low : le_z (pos 0) c.args.x ≡ true = grind (arith, ints) in
@@ -42,6 +42,6 @@ returns-in_default c =
     let w = c.args.self.now.size.width in
     let h = c.args.self.now.size.height in
     let m = c.args.self.now.memory.now in
-    let r = subst (λ z. has-row h (there w m) z ≡ false) (to_z-of_z w32 c.args.y c.ranges.y) c.in_default.ensures in
+    let r = subst (λ z. has_row h (there w m) z ≡ false) (to_z-of_z w32 c.args.y c.ranges.y) c.in_default.ensures in
     let d = drawn-none w h m c.args.x c.args.y 1 c.args.v r in
     record { picture = packed-picture w h m m _ c.args.v d; kept = still; rest = packed_spared w h m _ _ _ _ d; memory = d; lender = refl }

@@ -3,7 +3,7 @@ use Rattle.std.proofs.lemmas.Int.{to_z-of_z}
 use Rattle.surface.specs.Meaning.{spans}
 use Rattle.surface.specs.Rects.Kept.{still}
 use Rattle.raster.specs.Bits.{among}
-use Rattle.raster.specs.Layout.{has-row}
+use Rattle.raster.specs.Layout.{has_row}
 use Rattle.raster.specs.Packing.{stride}
 use Rattle.raster.specs.Planar.{planes_there}
 use Rattle.raster.proofs.PlanePictures.{planed_at, planes-row, planes-none, planar-picture, planar_spared}
@@ -15,7 +15,7 @@ returns-in-Some c =
     let h = c.args.self.now.size.height in
     let m = c.args.self.now.memory.now in
     let r =
-    subst (λ z. (has-row h (planes_there w h m) z ≡ true) × (c.in-Some.start ≡ nat_abs z * stride w) × (c.in-Some.start + stride w ≤ h * stride w))
+    subst (λ z. (has_row h (planes_there w h m) z ≡ true) × (c.in-Some.start ≡ nat_abs z * stride w) × (c.in-Some.start + stride w ≤ h * stride w))
     (to_z-of_z w32 c.args.y c.ranges.y) c.in-Some.ensures in
     let same =
     subst (λ z. (k : ℕ) → k < w → spans z c.args.n (pos k) ≡ among c.clip-from.result.0 c.clip-from.result.1 k)
@@ -29,6 +29,6 @@ returns-in_default c =
     let w = c.args.self.now.size.width in
     let h = c.args.self.now.size.height in
     let m = c.args.self.now.memory.now in
-    let r = subst (λ z. has-row h (planes_there w h m) z ≡ false) (to_z-of_z w32 c.args.y c.ranges.y) c.in_default.ensures in
+    let r = subst (λ z. has_row h (planes_there w h m) z ≡ false) (to_z-of_z w32 c.args.y c.ranges.y) c.in_default.ensures in
     let d = planes-none w h m c.args.x c.args.y c.args.n c.args.v r in
     record { picture = planar-picture w h m m _ c.args.v d; kept = still; rest = planar_spared w h m _ _ _ _ d; memory = d; lender = refl }
