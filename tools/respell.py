@@ -46,6 +46,18 @@ GIVEN = {
     "stop-of": "stop_of_lem",
 }
 
+# Lemmas that name a plain idea although both parts are names too.
+GIVEN.update(
+    (name, name.replace("-", "_"))
+    for name in """
+    binary-more binary-small block-bounds broken-listed bytes-painted bytes-stays bytewise-rest down-kept fits-memory
+    front-more held-bounding hull-least kept-after kept-both kept-none kept-one left-kept left-more lowest-more
+    none-bounding not-over one-draughts opens-inside packed-rest part-painted planar-rest planes-stays planes-there
+    planes-whole reached-part rect-more refused-not seen-cause shut-down sides-small solid-out some-draughts some-none
+    some-step spans-out step-rightly step-says still-here still-next strip-here told-ended
+    """.split()
+)
+
 
 def texts(root, ends):
     for p in sorted(glob.glob(os.path.join(root, "crates", "**", "*"), recursive=True)):
