@@ -46,7 +46,7 @@ def name_of(path):
 
 
 def main():
-    crates = [line.split(':')[0] for line in open(os.path.join(TOP, 'crates.txt')) if ':' in line]
+    crates = [line.split(':')[0].split()[0] for line in open(os.path.join(TOP, 'crates.txt')) if ':' in line]
     gate, body = 0, []
     for crate in crates:
         edits = sorted(glob.glob(f'{TOP}/crates/{crate}/must-fail/*.edit'))
