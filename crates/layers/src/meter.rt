@@ -112,6 +112,7 @@ impl<S: Surface> Surface for Meter<S> {
 
     ghost keeps = { λ s. bounds s.kept };
 
+    // Size and depth forward by hand, as in Rust: a trait for it would be longer than the three lines.
     fn width(&self) -> u16 {
         self.below.width()
     }

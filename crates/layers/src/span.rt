@@ -1,7 +1,7 @@
 ghost use Rattle.std.specs.Prelude.{◌≡◌, ◌&&◌, ℤ, pos, ◌+ℤ◌, ◌≤ℤ◌, int_le, int_lt};
 ghost use Rattle.surface.specs.Meaning.{spans};
 
-// The count numbers from start upwards.
+// The count numbers from start upwards. No Range: a fill takes a start and a count, and would have to cast back.
 #[derive(Clone, Copy)]
 pub struct Span {
     pub start: i32,
