@@ -1,5 +1,5 @@
 -- A step has one outcome.
-use Rattle.std.proofs.Common.{◌≡◌, ℕ, ◌+◌, ◌*◌, ◌⊎◌, List, length, Ok, Err, Result, sym, refl, ap, ◌∙◌, inl, inr, ⊎_elim, arith}
+use Rattle.std.proofs.Common.{◌≡◌, ℕ, ◌+◌, ◌*◌, ◌⊎◌, List, length, Ok, Err, Result, Some, None, Option, sym, refl, ap, ◌∙◌, inl, inr, ⊎_elim, arith}
 use Rattle.std.proofs.lemmas.Bool.{cases_lt}
 use Rattle.metafile.specs.Bytes.{long}
 use Rattle.metafile.specs.Exact.{Elsewhere}
@@ -17,8 +17,6 @@ use Rattle.player.specs.declared.fault.StepFault.TheVariants as fault
 use Rattle.player.specs.declared.progress.Phase.{Phase}
 use Rattle.player.specs.declared.progress.Phase.TheVariants.{Playing, Ended}
 use Rattle.player.specs.declared.progress.Progress.{Progress}
-use Rattle.player.specs.declared.stepping.Question.{Question}
-use Rattle.player.specs.declared.stepping.Question.TheVariants as tells
 
 pub lies_or_not : (b : List ℕ) (p : ℕ) → Lies b p ⊎ (Lies b p → ⊥)
 lies_or_not b p =
@@ -82,9 +80,9 @@ module _ (view : ℕ → ℕ) (file : List ℕ) (t : Progress) where
       )
 
 -- what the file tells of the next step comes true
-pub comes_true : (file : List ℕ) (t : Progress) (q : Result Question StepFault) → Tells file t q → Foretells file t q
-comes_true file t (Ok tells.Ended) h = λ view a t' m s. (one-step view file t a _ t' _ m _ s (over h refl refl refl)).0
-comes_true file t (Ok (tells.Record r)) h =
+pub comes_true : (file : List ℕ) (t : Progress) (q : Result (Option Record) StepFault) → Tells file t q → Foretells file t q
+comes_true file t (Ok None) h = λ view a t' m s. (one-step view file t a _ t' _ m _ s (over h refl refl refl)).0
+comes_true file t (Ok (Some r)) h =
     λ view a t' m s. (one-step view file t a _ t' _ m _ s (played r (plays (seen_record view r) t.context) h.0 h.1 refl refl refl refl)).0
 comes_true file t (Err (fault.File f)) (p, n, c, e) =
     λ view a t' m s. (one-step view file t a _ t' _ m _ s (lost p n refl refl refl)).0 ∙ (λ i. Err (fault.File (record { cause = sym c i; place = sym e i })))

@@ -1,7 +1,7 @@
 ghost use Rattle.std.specs.Prelude.{◌≡◌};
 ghost use Rattle.codes.specs.Refusals.{numbered};
 ghost use Rattle.player.specs.Faults.{cause_of, place_of, layer_of};
-ghost use Rattle.player.specs.declared.fault.StepFault.TheVariants.{File};
+ghost use Rattle.player.specs.declared.fault.StepFault.TheVariants.{File, Record};
 
 use codes::Refusal;
 use metafile::{FileFault, Layer};
@@ -25,6 +25,14 @@ impl From<FileFault> for StepFault {
 
     fn from(fault: FileFault) -> StepFault {
         Self::File(fault)
+    }
+}
+
+impl From<RecordFault> for StepFault {
+    ghost from_gives = { λ f s. s ≡ Record f };
+
+    fn from(fault: RecordFault) -> StepFault {
+        Self::Record(fault)
     }
 }
 

@@ -1,8 +1,4 @@
-ghost use Rattle.std.specs.Prelude.{◌≡◌, ◌+◌, ◌^◌, ◌<◌, ◌≤◌};
-ghost use Rattle.player.specs.Runs.{total, past};
-
-use codes::Refusal;
-use playback::{Answer, DeviceContext};
+use playback::DeviceContext;
 
 // How the records of a run were answered.
 #[derive(Clone, Copy)]
@@ -12,7 +8,7 @@ pub struct Counts {
     pub passed_over: usize,
 }
 
-#[derive(Clone, Copy)]
+#[derive(Clone, Copy, PartialEq, Eq)]
 pub enum Phase {
     Playing,
     Ended,
@@ -25,29 +21,4 @@ pub struct Progress {
     pub phase: Phase,
     pub counts: Counts,
     pub context: DeviceContext,
-}
-
-impl Progress {
-    // Counts the answer to the record at the place, and goes to its end; an end record stays where it is.
-    pub(crate) fn pass(&mut self, answer: Result<Answer, Refusal>, end: usize)
-        requires { (total self.old.counts + 1 < 2 ^ 64) × (self.old.place < end) }
-        ensures progress { self.new ≡ past end answer self.old }
-        ensures counted { total self.new.counts + self.old.place ≤ total self.old.counts + self.new.place }
-    {
-        match answer {
-            Ok(Answer::Ended) => self.phase = Phase::Ended,
-            Ok(Answer::Taken) => {
-                self.place = end;
-                self.counts.taken += 1;
-            }
-            Ok(Answer::PassedOver) => {
-                self.place = end;
-                self.counts.passed_over += 1;
-            }
-            Err(_) => {
-                self.place = end;
-                self.counts.refused += 1;
-            }
-        }
-    }
 }
