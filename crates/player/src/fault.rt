@@ -7,14 +7,14 @@ use codes::Refusal;
 use metafile::{FileFault, Layer};
 
 // Why the record at a place is refused.
-#[derive(Clone, Copy)]
+#[derive(Clone, Copy, PartialEq, Eq, Debug)]
 pub struct RecordFault {
     pub cause: Refusal,
     pub place: usize,
 }
 
 // Why a step is refused: a fault of the file, carried whole, or of a record.
-#[derive(Clone, Copy)]
+#[derive(Clone, Copy, PartialEq, Eq, Debug)]
 pub enum StepFault {
     File(FileFault),
     Record(RecordFault),

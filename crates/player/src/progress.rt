@@ -1,14 +1,14 @@
 use playback::DeviceContext;
 
 // How the records of a run were answered.
-#[derive(Clone, Copy)]
+#[derive(Clone, Copy, PartialEq, Eq, Debug)]
 pub struct Counts {
     pub taken: usize,
     pub refused: usize,
     pub passed_over: usize,
 }
 
-#[derive(Clone, Copy, PartialEq, Eq)]
+#[derive(Clone, Copy, PartialEq, Eq, Debug)]
 pub enum Phase {
     Playing,
     Ended,

@@ -38,6 +38,7 @@ impl<'a> Run<'a> {
         ensures obeyed { Obeys S.means S.keeps S.rest found.entry.end (found_outcome found.entry.decoded self.old.progress.context) result self.old.progress self.new.progress surface.old surface.new }
     {
         let place = self.progress.place;
+        // A match and no `and_then`: of what its closure would do to the surface, nothing would be known.
         let answer = match found.decoded {
             Ok(record) => self.progress.context.play(record, surface),
             Err(cause) => Err(cause),
