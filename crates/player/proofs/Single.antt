@@ -32,9 +32,6 @@ pub phases : (p : Phase) → (p ≡ Playing) ⊎ (p ≡ Ended)
 phases Playing = inl refl
 phases Ended = inr refl
 
-pub not_over : (p : Phase) → p ≡ Playing → p ≡ Ended → ⊥
-not_over p e f = let z : ◌≡◌ {A = ℕ} 0 1 = cc in omega arith
-
 -- two records that are shown at one place do the same
 alike : (view : ℕ → ℕ) (c : DeviceContext) (r s : Record) → (r ≡ s) ⊎ Elsewhere r s → plays (seen_record view r) c ≡ plays (seen_record view s) c
 alike view c r s (inl e) = ap (λ r. plays (seen_record view r) c) e
@@ -56,20 +53,20 @@ some_step view file t =
 module _ (view : ℕ → ℕ) (file : List ℕ) (t : Progress) where
   pub one-step : (a b : Result Answer StepFault) (u v : Progress) (m n : Mark) → Steps view file t a u m → Steps view file t b v n → (a ≡ b) × (u ≡ v) × (m ≡ n)
   one-step a b u v m n (over p e g h) (over p' e' g' h') = (e ∙ sym e', g ∙ sym g', h ∙ sym h')
-  one-step a b u v m n (over p e g h) (lost p' l' e' g' h') = absurd (not_over _ p' p)
-  one-step a b u v m n (over p e g h) (broken c' p' b' e' g' h') = absurd (not_over _ p' p)
-  one-step a b u v m n (over p e g h) (played r' o' p' s' k' e' g' h') = absurd (not_over _ p' p)
-  one-step a b u v m n (lost p l e g h) (over p' e' g' h') = absurd (not_over _ p p')
+  one-step a b u v m n (over p e g h) (lost p' l' e' g' h') = cc
+  one-step a b u v m n (over p e g h) (broken c' p' b' e' g' h') = cc
+  one-step a b u v m n (over p e g h) (played r' o' p' s' k' e' g' h') = cc
+  one-step a b u v m n (lost p l e g h) (over p' e' g' h') = cc
   one-step a b u v m n (lost p l e g h) (lost p' l' e' g' h') = (e ∙ sym e', g ∙ sym g', h ∙ sym h')
   one-step a b u v m n (lost p l e g h) (broken c' p' b' e' g' h') = absurd (l b'.0)
   one-step a b u v m n (lost p l e g h) (played r' o' p' s' k' e' g' h') = absurd (l s'.0)
-  one-step a b u v m n (broken c p d e g h) (over p' e' g' h') = absurd (not_over _ p p')
+  one-step a b u v m n (broken c p d e g h) (over p' e' g' h') = cc
   one-step a b u v m n (broken c p d e g h) (lost p' l' e' g' h') = absurd (l' d.0)
   one-step a b u v m n (broken c p d e g h) (broken c' p' d' e' g' h') =
       let same : c ≡ c' = one_cause _ _ c c' d.1 d'.1 in
       (e ∙ ap (λ c. told t.place (Err c)) same ∙ sym e', g ∙ ap (λ c. past (end file t.place) (Err c) t) same ∙ sym g', h ∙ sym h')
   one-step a b u v m n (broken c p d e g h) (played r' o' p' s' k' e' g' h') = absurd (not_both _ _ r' c s'.1 d.1)
-  one-step a b u v m n (played r o p s k e g h) (over p' e' g' h') = absurd (not_over _ p p')
+  one-step a b u v m n (played r o p s k e g h) (over p' e' g' h') = cc
   one-step a b u v m n (played r o p s k e g h) (lost p' l' e' g' h') = absurd (l' s.0)
   one-step a b u v m n (played r o p s k e g h) (broken c' p' d' e' g' h') = absurd (not_both _ _ r c' s.1 d'.1)
   one-step a b u v m n (played r o p s k e g h) (played r' o' p' s' k' e' g' h') =

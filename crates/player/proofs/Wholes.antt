@@ -1,6 +1,5 @@
 -- Steps of a run, one after another.
-use Rattle.std.proofs.Common.{◌≡◌, ℕ, ◌+◌, ◌-◌, ◌*◌, ◌/◌, ◌<◌, ◌≤◌, Bool, true, false, not, ◌&&◌, ◌||◌, ◌⊎◌, List, [], ◌∷◌, ◌++◌, length, ℤ, Ok, Err, Result, sym, refl, ap, ◌∙◌, subst, inl, inr, arith}
-use Rattle.std.proofs.lemmas.Bool.{true≢false}
+use Rattle.std.proofs.Common.{◌≡◌, ℕ, ◌+◌, ◌≤◌, Bool, true, false, not, ◌&&◌, ◌||◌, List, [], ◌∷◌, ◌++◌, length, ℤ, Ok, Err, Result, sym, refl, ap, ◌∙◌, subst, arith}
 use Rattle.codes.specs.declared.refusal.Refusal.{Refusal}
 use Rattle.surface.specs.Meaning.{Meaning}
 use Rattle.surface.specs.Rects.{Keep, Kept}
@@ -19,13 +18,13 @@ use Rattle.player.specs.declared.whole.Step.{Step}
 past-moves : (p e : ℕ) (r : Result Answer Refusal) (t : Progress) → final (told p r) ≡ false → (past e r t).place ≡ e
 past-moves p e (Ok answer.Taken) t f = refl
 past-moves p e (Ok answer.PassedOver) t f = refl
-past-moves p e (Ok answer.Ended) t f = absurd (true≢false f)
+past-moves p e (Ok answer.Ended) t f = cc
 past-moves p e (Err c) t f = refl
 
 pub moves : (view : ℕ → ℕ) (file : List ℕ) (t : Progress) (a : Result Answer StepFault) (t' : Progress) (m : Mark)
     → Steps view file t a t' m → final a ≡ false → (t.place + 6 ≤ t'.place) × (t'.place ≤ length file)
-moves view file t a t' m (over p e g h) f = absurd (true≢false (sym (ap final e) ∙ f))
-moves view file t a t' m (lost p l e g h) f = absurd (true≢false (sym (ap final e) ∙ f))
+moves view file t a t' m (over p e g h) f = cc
+moves view file t a t' m (lost p l e g h) f = cc
 moves view file t a t' m (broken c p b e g h) f =
     let q : t'.place ≡ end file t.place = ap (λ (t : Progress). t.place) g in
     (omega (arith, b.0.least, b.0.within), omega (arith, b.0.within))
