@@ -1,4 +1,5 @@
 ghost use Rattle.std.specs.Prelude.{◌≡◌, ◌≤◌, MatchResult};
+ghost use Rattle.codes.specs.declared.refusal.Refusal.TheVariants.{Value};
 ghost use Rattle.codes.specs.Modes.{mode_number};
 ghost use Rattle.codes.specs.Operations.{mixed};
 
@@ -26,11 +27,13 @@ pub enum LineMode {
     White = 16,
 }
 
-impl LineMode {
-    // The mode of a number from 1 to 16.
-    pub fn new(number: u16) -> Result<LineMode, Refusal>
-        ensures { MatchResult result (λ m. mode_number m ≡ number) (λ e. (e ≡ Refusal.Value) × (1 ≤ number → number ≤ 16 → ⊥)) }
-    {
+// The mode of a number from 1 to 16.
+impl TryFrom<u16> for LineMode {
+    type Error = Refusal;
+
+    ghost try_from_gives = { λ number r. MatchResult r (λ m. mode_number m ≡ number) (λ e. (e ≡ Value) × (1 ≤ number → number ≤ 16 → ⊥)) };
+
+    fn try_from(number: u16) -> Result<LineMode, Refusal> {
         match number {
             1 => Ok(LineMode::Black),
             2 => Ok(LineMode::NotMergePen),
@@ -51,7 +54,9 @@ impl LineMode {
             _ => Err(Refusal::Value),
         }
     }
+}
 
+impl LineMode {
     pub fn number(self) -> u8
         ensures { result ≡ mode_number self }
     {

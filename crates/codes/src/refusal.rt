@@ -1,5 +1,8 @@
-ghost use Rattle.std.specs.Prelude.{◌≡◌};
-ghost use Rattle.codes.specs.Refusals.{numbered};
+ghost use Rattle.std.specs.Prelude.{◌≡◌, Some};
+ghost use Rattle.codes.specs.Refusals.{numbered, told};
+
+use std::error::Error;
+use std::fmt;
 
 // Why a call or a record is refused. Each cause has its number in the table of refusals.
 #[derive(Clone, Copy, PartialEq, Eq, Debug)]
@@ -42,3 +45,30 @@ impl Refusal {
         self as u8
     }
 }
+
+// The cause in words.
+impl fmt::Display for Refusal {
+    ghost output = { λ refusal. Some (told refusal) };
+
+    fn fmt<W: fmt::Write>(&self, f: &mut fmt::Formatter<W>) -> fmt::Result {
+        f.write_str(match self {
+            Refusal::Size => "width or height outside 1 to 4096",
+            Refusal::Memory => "memory shorter than the picture",
+            Refusal::FileLength => "file shorter than 18 bytes or longer than 65536",
+            Refusal::Header => "header field out of range",
+            Refusal::Frame => "no record lies here before the stated end",
+            Refusal::RecordSize => "size not that of the function",
+            Refusal::Colour => "upper half of a colour is not 0x0100",
+            Refusal::Operation =>
+                "top byte of a raster operation is not 0, or a paint depends on the source",
+            Refusal::Value => "mode, style, hatch, pen width or size out of range",
+            Refusal::TableFull => "no empty slot in the object table",
+            Refusal::NoObject => "no object at the index",
+            Refusal::Range => "coordinate, width or height out of range",
+            Refusal::Buffer => "output buffer too short",
+            Refusal::Row => "picture without cells, or row outside it",
+        })
+    }
+}
+
+impl Error for Refusal {}

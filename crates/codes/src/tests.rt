@@ -11,6 +11,6 @@ fn code_on_its_table(rt: HostRuntime) {
 
 #[test]
 fn xor_pen(rt: HostRuntime) -> Result<(), Fail> {
-    assert_eq!(rt; LineMode::new(7)?.mix(12, 10), 6);
+    assert_eq!(rt; LineMode::try_from(7)?.mix(12, 10), 6);
     Ok(())
 }

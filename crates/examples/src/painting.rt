@@ -78,7 +78,7 @@ pub fn paint_block() -> Painted
 {
     let mut memory = [0; 4];
     let (bounds, rows) = paint_packed(&mut memory);
-    let _ = bounds_are_unique();
+    bounds_are_unique();
     Painted {
         memory: [
             byte(&memory, 0),

@@ -16,11 +16,13 @@ pub enum HatchStyle {
     DiagonalCross = 5,
 }
 
-impl HatchStyle {
-    // The style of a number from 0 to 5.
-    pub fn new(number: u16) -> Result<HatchStyle, Refusal>
-        ensures { MatchResult result (λ s. style_number s ≡ number) (λ e. (e ≡ Value) × (number < 6 → ⊥)) }
-    {
+// The style of a number from 0 to 5.
+impl TryFrom<u16> for HatchStyle {
+    type Error = Refusal;
+
+    ghost try_from_gives = { λ number r. MatchResult r (λ s. style_number s ≡ number) (λ e. (e ≡ Value) × (number < 6 → ⊥)) };
+
+    fn try_from(number: u16) -> Result<HatchStyle, Refusal> {
         match number {
             0 => Ok(HatchStyle::Horizontal),
             1 => Ok(HatchStyle::Vertical),

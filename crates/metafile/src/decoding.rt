@@ -108,7 +108,7 @@ fn set_rop2(p: &[u8]) -> Result<Record<'_>, Refusal>
         return Err(Refusal::RecordSize);
     }
     Ok(Record::SetRop2 {
-        mode: LineMode::new(u16_at(p, 0))?,
+        mode: LineMode::try_from(u16_at(p, 0))?,
     })
 }
 

@@ -32,10 +32,10 @@ NoBrush style hatch = (style ≢ 0) × (style ≡ 2 → hatch < 6 → ⊥)
 
 -- the ink of a brush over a back colour
 abbrev pub brushed : Brush → ℕ → BrushInk
-brushed (brush.Solid c) back = ink.Solid c
+brushed (brush.Solid c) back = ink.Solid (record { 0 = c })
 brushed (brush.Hatched s c) back = ink.Hatched (record { style = s; line = c; back = back })
 
 -- its word at each cell
 abbrev pub inked : BrushInk → ℤ → ℤ → ℕ
-inked (ink.Solid c) x y = c
+inked (ink.Solid s) x y = s.0
 inked (ink.Hatched h) x y = hatched h x y

@@ -3,7 +3,7 @@ ghost use Rattle.codes.specs.declared.refusal.Refusal.TheVariants.{Value};
 ghost use Rattle.pencil.specs.Tools.{BrushIs, NoBrush, brushed, inked};
 
 use codes::Refusal;
-use ink::{Hatch, HatchStyle, Ink};
+use ink::{Hatch, HatchStyle, Ink, Solid};
 
 // A brush paints one colour, or a hatch of one on the back colour.
 #[derive(Clone, Copy, PartialEq, Eq, Debug)]
@@ -14,13 +14,14 @@ pub enum Brush {
 
 impl Brush {
     // The brush of a published style, 0 for solid or 2 for hatched. A solid brush reads no hatch.
+    // No TryFrom: three numbers in a tuple would lose their names.
     pub fn new(style: u16, colour: u16, hatch: u16) -> Result<Brush, Refusal>
         ensures { MatchResult result (BrushIs style colour hatch) (λ e. (e ≡ Value) × NoBrush style hatch) }
     {
         match style {
             0 => Ok(Brush::Solid { colour }),
             2 => Ok(Brush::Hatched {
-                style: HatchStyle::new(hatch)?,
+                style: HatchStyle::try_from(hatch)?,
                 colour,
             }),
             _ => Err(Refusal::Value),
@@ -32,14 +33,12 @@ impl Brush {
         ensures { result ≡ brushed self back }
     {
         match self {
-            Brush::Solid { colour } => BrushInk::Solid { colour },
-            Brush::Hatched { style, colour } => BrushInk::Hatched {
-                hatch: Hatch {
-                    style,
-                    line: colour,
-                    back,
-                },
-            },
+            Brush::Solid { colour } => BrushInk::Solid(Solid(colour)),
+            Brush::Hatched { style, colour } => BrushInk::Hatched(Hatch {
+                style,
+                line: colour,
+                back,
+            }),
         }
     }
 }
@@ -47,8 +46,8 @@ impl Brush {
 // What a brush gives each cell.
 #[derive(Clone, Copy)]
 pub enum BrushInk {
-    Solid { colour: u16 },
-    Hatched { hatch: Hatch },
+    Solid(Solid),
+    Hatched(Hatch),
 }
 
 impl Ink for BrushInk {
@@ -56,15 +55,15 @@ impl Ink for BrushInk {
 
     fn word(&self, x: i32, y: i32) -> u16 {
         match self {
-            BrushInk::Solid { colour } => *colour,
-            BrushInk::Hatched { hatch } => hatch.word(x, y),
+            BrushInk::Solid(solid) => solid.word(x, y),
+            BrushInk::Hatched(hatch) => hatch.word(x, y),
         }
     }
 
     fn solid(&self) -> Option<u16> {
         match self {
-            BrushInk::Solid { colour } => Some(*colour),
-            BrushInk::Hatched { .. } => None,
+            BrushInk::Solid(solid) => solid.solid(),
+            BrushInk::Hatched(hatch) => hatch.solid(),
         }
     }
 }

@@ -1,3 +1,4 @@
 pub mod Keeping
 pub mod Strokes
 pub mod Sames
+pub mod Ranges

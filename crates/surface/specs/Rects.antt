@@ -1,5 +1,6 @@
 -- Rectangles as sets of cells, and what a surface keeps of the open cells that sets and fills reached.
-use Rattle.std.specs.Prelude.{◌≡◌, Bool, false, ◌&&◌, T, ℤ, Some, None, Option, int_le, int_lt}
+use Rattle.std.specs.Prelude.{◌≡◌, ℕ, Bool, false, ◌&&◌, T, ℤ, List, ◌++◌, Some, None, Option, codes, int_le, int_lt}
+use Rattle.std.specs.Fmt.{signed_decimal}
 use Rattle.std.specs.Int.{int_max, int_min}
 use Rattle.surface.specs.declared.rect.Rect.{Rect}
 
@@ -40,3 +41,7 @@ overlap p q = record {
   right = int_min p.right q.right;
   bottom = int_min p.bottom q.bottom;
 }
+
+-- the text of a rectangle: its four numbers with a space between each two
+abbrev pub shown : Rect → List ℕ
+shown r = signed_decimal r.left ++ codes " " ++ signed_decimal r.top ++ codes " " ++ signed_decimal r.right ++ codes " " ++ signed_decimal r.bottom

@@ -1,5 +1,7 @@
-ghost use Rattle.std.specs.Prelude.{◌≡◌};
-ghost use Rattle.surface.specs.Rects.{holds, overlap};
+ghost use Rattle.std.specs.Prelude.{◌≡◌, Some};
+ghost use Rattle.surface.specs.Rects.{holds, overlap, shown};
+
+use std::fmt;
 
 // The cells with left ≤ x < right and top ≤ y < bottom.
 #[derive(Clone, Copy, PartialEq, Eq, Debug)]
@@ -27,5 +29,20 @@ impl Rect {
             right: self.right.min(other.right),
             bottom: self.bottom.min(other.bottom),
         }
+    }
+}
+
+// LEFT TOP RIGHT BOTTOM.
+impl fmt::Display for Rect {
+    ghost output = { λ r. Some (shown r) };
+
+    fn fmt<W: fmt::Write>(&self, f: &mut fmt::Formatter<W>) -> fmt::Result {
+        let Rect {
+            left,
+            top,
+            right,
+            bottom,
+        } = self;
+        write!(f, "{left} {top} {right} {bottom}")
     }
 }
