@@ -1,13 +1,8 @@
-use Rattle.std.proofs.Common.{rules, ◌≡◌, [], ◌∷◌, length, pos, ℕ, ◌+◌, ◌-◌, ◌*◌, ◌<◌, ◌≤◌}
-use Rattle.raster.specs.Bytewise.{bytewise}
-use Rattle.examples.specs.Pictures.{moved}
+use Rattle.codes.specs.Bits.{of_bits}
+use Rattle.codes.specs.Operations.{combined}
+use Rattle.examples.proofs.Cells.{row_of}
 use Rattle.examples.proofs.copying.copy_left.Goals as goal
 
 pub returns : goal.returns
-returns c =
-  let a = c.shift.type_inv in
-  let b = c.shift.auto in
-  let d = c.well_formed in
-  let e = c.args in
-  let f = c.shift.ensures in
-  ?
+unfolding combined of_bits
+returns c = row_of _ _ c.shift.auto.memory c.shift.ensures.row c.shift.ensures.bytes
