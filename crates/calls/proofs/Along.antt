@@ -1,5 +1,5 @@
 -- A machine that goes on, call by call.
-use Rattle.std.proofs.Common.{◌≡◌, ℕ, ◌≤◌, Bool, false, cond, ◌&&◌, ◌||◌, List, [], ◌∷◌, ◌++◌, ℤ, sym, refl, ap, ◌∙◌, subst}
+use Rattle.std.proofs.Common.{◌≡◌, ℕ, ◌≤◌, Bool, false, ◌||◌, List, [], ◌∷◌, ◌++◌, ℤ, sym, refl, ap, ◌∙◌, subst}
 use Rattle.std.proofs.lemmas.Bool.{and_right, or_parts}
 use Rattle.surface.specs.Meaning.{Meaning}
 use Rattle.surface.specs.Rects.{Keep, Kept}
@@ -28,17 +28,14 @@ still_then m n o a b = record {
   closed = λ x y h. b.closed x y (ap (λ f. f x y) a.opens ∙ h) ∙ a.closed x y h;
 }
 
-shut : (b : Bool) (v w : ℕ) → b ≡ false → cond b v w ≡ w
-shut b v w e = simp e refl
-
 pub still_after : (k : Mark) (m : Meaning) → Still m (after k m)
 still_after untouched m = still_here m
-still_after (marked region new) m = record { width = refl; height = refl; depth = refl; opens = refl; closed = λ x y h. shut (region x y && m.opens x y) _ _ (and_right (region x y) (m.opens x y) h) }
+still_after (marked region new) m = record { width = refl; height = refl; depth = refl; opens = refl; closed = λ x y h. simp (and_right (region x y) (m.opens x y) h) refl }
 
 -- a cell that a mark does not reach keeps its word
 pub unaimed : (k : Mark) (m : Meaning) (x y : ℤ) → aimed k m x y ≡ false → (after k m).word x y ≡ m.word x y
 unaimed untouched m x y e = refl
-unaimed (marked region new) m x y e = shut (region x y && m.opens x y) _ _ e
+unaimed (marked region new) m x y e = simp e refl
 
 module _ {I : Type 0} (view : ℕ → ℕ) (shade : I → ℤ → ℤ → ℕ) (file : List ℕ) where
   -- one more at the end

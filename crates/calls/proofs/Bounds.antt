@@ -21,9 +21,6 @@ use Rattle.calls.proofs.Along.{machine_push, leads}
 first_cell : (l t r b : ℤ) → (solid (Some (record { left = l; top = t; right = r; bottom = b })) ≡ true) → holds (record { left = l; top = t; right = r; bottom = b }) l t ≡ true
 first_cell l t r b e = grind (arith, ints)
 
-some_none : (r : Rect) → Some r ≡ None → ⊥
-some_none r e = let z : ◌≡◌ {A = ℕ} 0 1 = cc in omega arith
-
 -- what a meter keeps is the smallest rectangle around its own cells
 pub held_bounding : (r : Option Rect) → solid r ≡ true → Bounding (held r) r
 held_bounding None e = record { all = λ x y h. h; least = λ q h. h; empty = λ h. refl; none = λ h x y t. t }
@@ -31,7 +28,7 @@ held_bounding (Some r) e = record {
   all = λ x y h. h;
   least = λ q h. h;
   empty = λ h. absurd (h r.left r.top (subst T (sym (first_cell r.left r.top r.right r.bottom e)) tt));
-  none = λ h. absurd (some_none r h);
+  none = λ h. cc;
 }
 
 -- more cells were reached

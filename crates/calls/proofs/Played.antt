@@ -1,5 +1,5 @@
 -- Runs of steps on each bit plane.
-use Rattle.std.proofs.Common.{◌≡◌, ℕ, ◌<◌, ◌≤◌, Bool, false, ◌||◌, List, [], ◌∷◌, ◌++◌, ℤ, IfOk, Ok, Err, Result, refl, ◌∙◌, subst, arith}
+use Rattle.std.proofs.Common.{◌≡◌, ℕ, ◌<◌, ◌≤◌, Bool, false, ◌||◌, List, [], ◌∷◌, ◌++◌, ℤ, refl, ◌∙◌, subst, arith}
 use Rattle.std.proofs.lemmas.Bool.{or_parts}
 use Rattle.codes.specs.Bits.{bit}
 use Rattle.surface.specs.Meaning.{Meaning}
@@ -40,8 +40,3 @@ module _ (file : List ℕ) (t : Progress) (m : Meaning) where
 
   pub played-apart : m.depth ≤ 16 → (steps : List Step) (u : Progress) (n : Meaning) (cells : ℤ → ℤ → Bool) → Plays (λ w. w) file t m steps u n cells → PlayedApart file t m steps u n
   played-apart d steps u n cells p = record { cells = cells; planes = λ k h. plays-seen k h d p; still = plays-still p; unreached = plays-unreached p }
-
--- what follows of a value that was made
-pub made_so : {V E : Type 0} (P Q : V → Type 0) (r : Result V E) → ((v : V) → P v → Q v) → IfOk r P → IfOk r Q
-made_so P Q (Ok v) f h = f v h
-made_so P Q (Err e) f h = tt

@@ -26,6 +26,8 @@ fn act<S: Surface, I: Ink>(meter: &mut Meter<S>, run: &mut Run<'_>, call: &Meter
 
 // Makes a list of calls and clearings over a meter, and gives every one's reply, in order. Memory is reserved first, so that want of
 // it changes nothing.
+// It stands beside `perform`: a closure that makes the calls would hold run and surface, of which nothing is known after it, and a
+// trait for both lists would be longer than the lines that they share.
 pub fn perform_metered<S: Surface, I: Ink>(
     meter: &mut Meter<S>,
     run: &mut Run<'_>,

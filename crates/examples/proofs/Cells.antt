@@ -1,6 +1,7 @@
 -- The cells of a picture in the memory.
-use Rattle.std.proofs.Common.{◌≡◌, ℕ, ◌+◌, ◌*◌, ◌/◌, ◌%◌, ◌<◌, true, ◌&&◌, ltb, List, [], ◌∷◌, ◌++◌, map, length, get_or, pos, Ok, Result, sym, ap, ◌∙◌, subst, arith}
+use Rattle.std.proofs.Common.{◌≡◌, ℕ, ◌+◌, ◌*◌, ◌/◌, ◌%◌, ◌<◌, true, ◌&&◌, ltb, List, [], ◌∷◌, ◌++◌, map, length, get_or, pos, Ok, Result, refl, ap, ◌∙◌, subst, arith}
 use Rattle.std.proofs.lemmas.Int.{ints}
+use Rattle.std.proofs.lemmas.List.FromFn.{fill_by_all}
 use Rattle.std.proofs.lemmas.Bool.Decides.{nat_tests}
 use Rattle.std.specs.List.{range_with_len}
 use Rattle.codes.specs.declared.refusal.Refusal.{Refusal}
@@ -20,6 +21,10 @@ cell_is m n l p x v h e s =
     let a : v ≡ (bytewise 5 1 m).word (pos x) (pos 0) = cc in
     a ∙ ap (λ z. z.word (pos x) (pos 0)) p
 
+-- and the row
+pub row_of : (m : List ℕ) (n : Meaning) → length m ≡ 5 → bytewise 5 1 m ≡ n → ((k : ℕ) → get_or m k 0 < 256) → m ≡ map (λ x. n.word (pos x) (pos 0)) (range_with_len 0 5)
+row_of m n l p b = fill_by_all _ m 5 0 l (λ x h. cell_is m n l p x (get_or m x 0) h refl (b x))
+
 -- a bit of h rows of eight
 pub bit_is : (h : ℕ) (m : List ℕ) (n : Meaning) → length m ≡ h → packed 8 h m ≡ n → (i : ℕ) → i < 8 * h → bit_of m i ≡ n.word (pos (i % 8)) (pos (i / 8))
 bit_is h m n l p i b =
@@ -30,17 +35,9 @@ bit_is h m n l p i b =
     let r : bit_of m i ≡ (packed 8 h m).word (pos (i % 8)) (pos (i / 8)) = cc in
     r ∙ ap (λ z. z.word (pos (i % 8)) (pos (i / 8))) p
 
--- a picture of bytes whose size and memory go by other names
-pub as_bytes : (f : Meaning → Meaning) {w h w' h' : ℕ} {m n : List ℕ} (m' : List ℕ) → w ≡ 5 → h ≡ 1 → w' ≡ w → h' ≡ h → m ≡ n
-    → bytewise w' h' m' ≡ f (bytewise w h m) → bytewise 5 1 m' ≡ f (bytewise 5 1 n)
-as_bytes f m' w h w' h' e p =
-    sym (λ i. bytewise ((w' ∙ w) i) ((h' ∙ h) i) m') ∙ p ∙ (λ i. f (bytewise (w i) (h i) (e i)))
-
--- the same of a packed picture
-pub as_packed : (f : Meaning → Meaning) {w h w' h' k : ℕ} {m n : List ℕ} (m' : List ℕ) → w ≡ 8 → h ≡ k → w' ≡ w → h' ≡ h → m ≡ n
-    → packed w' h' m' ≡ f (packed w h m) → packed 8 k m' ≡ f (packed 8 k n)
-as_packed f m' w h w' h' e p =
-    sym (λ i. packed ((w' ∙ w) i) ((h' ∙ h) i) m') ∙ p ∙ (λ i. f (packed (w i) (h i) (e i)))
+-- a packed picture of four rows whose size and memory go by other names
+pub same_picture : {w h : ℕ} {m n : List ℕ} → w ≡ 8 → h ≡ 4 → m ≡ n → packed w h m ≡ packed 8 4 n
+same_picture w h e = λ i. packed (w i) (h i) (e i)
 
 -- the byte of a row of eight cells in a buffer of one byte
 pub row_is : (m : Meaning) (y : ℕ) (new : List ℕ) (r : Result ℕ Refusal) → m.width ≡ 8 → m.height ≡ 4 → y < 4

@@ -1,5 +1,6 @@
 -- Lines by the list of their cells, and a raster operation that does not read its pattern.
 use Rattle.std.proofs.Common.{◌≡◌, ℕ, zero, suc, ◌+◌, ◌*◌, ◌/◌, ◌%◌, ◌^◌, ◌<◌, Bool, true, false, ◌||◌, List, [], ◌∷◌, ◌++◌, ℤ, sym, refl, ap, ◌∙◌, arith}
+use Rattle.std.proofs.Math.Bool.{or-false, or_assoc}
 use Rattle.codes.specs.Bits.{bit, of_bits}
 use Rattle.codes.specs.Operations.{combined}
 use Rattle.surface.specs.Meaning.{strip}
@@ -7,14 +8,6 @@ use Rattle.drawing.specs.Lines.{longer, spot, traced}
 use Rattle.drawing.specs.declared.shape.Point.{Point}
 use Rattle.lines.specs.Examples.{cells}
 use Rattle.examples.specs.Worked.{listed, Line}
-
-or_false : (a : Bool) → (a || false) ≡ a
-or_false true = refl
-or_false false = refl
-
-or_assoc : (a b c : Bool) → ((a || b) || c) ≡ (a || (b || c))
-or_assoc true b c = refl
-or_assoc false b c = refl
 
 listed_++ : (ps qs : List Point) (a b : ℤ) → listed (ps ++ qs) a b ≡ (listed ps a b || listed qs a b)
 listed_++ [] qs a b = refl
@@ -26,7 +19,7 @@ traced-listed p q zero a b = refl
 traced-listed p q (suc n) a b =
     let s = strip (spot p q n).x (spot p q n).y 1 a b in
     ap (λ t. t || s) (traced-listed p q n a b)
-    ∙ ap (λ t. listed (cells p q n) a b || t) (sym (or_false s))
+    ∙ ap (λ t. listed (cells p q n) a b || t) (sym (or-false s))
     ∙ sym (listed_++ (cells p q n) (spot p q n ∷ []) a b)
 
 pub line_listed : (p q : Point) (list : List Point) → cells p q (longer p q) ≡ list → Line p q list

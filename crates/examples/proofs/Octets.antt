@@ -1,7 +1,9 @@
 -- A byte by its bits, the highest first.
-use Rattle.std.proofs.Common.{◌≡◌, ℕ, zero, suc, ◌+◌, ◌-◌, ◌*◌, ◌/◌, ◌%◌, ◌^◌, ◌<◌, Bool, true, ◌&&◌, eqb, List, get_or, refl, arith, lit<}
+use Rattle.std.proofs.Common.{◌≡◌, ℕ, zero, suc, ◌+◌, ◌-◌, ◌*◌, ◌/◌, ◌%◌, ◌^◌, ◌<◌, Bool, true, ◌&&◌, eqb, List, map, length, get_or, refl, arith, lit<}
 use Rattle.std.proofs.lemmas.Bool.Decides.{Decides-below_and}
 use Rattle.std.proofs.lemmas.Bool.{eqb-true}
+use Rattle.std.proofs.lemmas.List.FromFn.{fill_by_all}
+use Rattle.std.specs.List.{range_with_len}
 use Rattle.raster.specs.Bits.{bit_of}
 
 abbrev all : (ℕ → Bool) → ℕ → Bool
@@ -54,3 +56,7 @@ byte_is m g n f q v l e h =
     let h7 = bit_at m q 7 (lit< tt) in
     let f7 = f (8 * q + 7) (omega arith) in
     cc
+
+-- a memory whose bits are known
+pub bytes_are : (m : List ℕ) (g : ℕ → ℕ) (n : ℕ) → length m ≡ n → ((i : ℕ) → i < 8 * n → bit_of m i ≡ g i) → ((k : ℕ) → get_or m k 0 < 256) → m ≡ map (octet g) (range_with_len 0 n)
+bytes_are m g n l f b = fill_by_all _ m n 0 l (λ q h. byte_is m g n f q (get_or m q 0) h refl (b q))

@@ -1,54 +1,31 @@
-ghost use Rattle.std.specs.Prelude.{◌≡◌, [], ◌∷◌, length, pos};
+ghost use Rattle.std.specs.Prelude.{◌≡◌, ℕ, ◌<◌, [], ◌∷◌, length, pos, slice_index};
 ghost use Rattle.raster.specs.Bytewise.{bytewise};
 ghost use Rattle.examples.specs.Pictures.{moved};
 
-use crate::bytes::byte;
 use copies::copy;
 use drawing::{Area, Point};
 use ink::Solid;
 use pencil::Pencil;
 use raster::Bytes;
 
-fn move_right(memory: &mut [u8])
+// Copies w cells of a row of five from column `from` on to column `to`.
+fn shift(memory: &mut [u8], w: u8, from: u8, to: u8)
     requires { length memory.old ≡ 5 }
-    ensures { bytewise 5 1 memory.new ≡ moved 4 (pos 0) (pos 1) (bytewise 5 1 memory.old) }
+    ensures row { bytewise 5 1 memory.new ≡ moved w (pos from) (pos to) (bytewise 5 1 memory.old) }
+    ensures bytes { (k : ℕ) → slice_index memory.new k < 256 }
 {
     let mut row = Bytes::new(memory, 5, 1);
     let area = Area {
-        x: 1,
+        x: i32::from(to),
         y: 0,
-        w: 4,
+        w: i32::from(w),
         h: 1,
     };
-    let _ = copy(
-        &mut row,
-        &Pencil::new(),
-        area,
-        Point { x: 0, y: 0 },
-        0xCC,
-        &Solid(0),
-    );
-}
-
-fn move_left(memory: &mut [u8])
-    requires { length memory.old ≡ 5 }
-    ensures { bytewise 5 1 memory.new ≡ moved 5 (pos 2) (pos 0) (bytewise 5 1 memory.old) }
-{
-    let mut row = Bytes::new(memory, 5, 1);
-    let area = Area {
-        x: 0,
+    let source = Point {
+        x: i32::from(from),
         y: 0,
-        w: 5,
-        h: 1,
     };
-    let _ = copy(
-        &mut row,
-        &Pencil::new(),
-        area,
-        Point { x: 2, y: 0 },
-        0xCC,
-        &Solid(0),
-    );
+    let _ = copy(&mut row, &Pencil::new(), area, source, 0xCC, &Solid(0));
 }
 
 // A row of five cells, of which the first four were copied one to the right.
@@ -56,14 +33,8 @@ pub fn copy_right() -> [u8; 5]
     ensures { result ≡ 1 ∷ 1 ∷ 2 ∷ 3 ∷ 4 ∷ [] }
 {
     let mut memory = [1, 2, 3, 4, 5];
-    move_right(&mut memory);
-    [
-        byte(&memory, 0),
-        byte(&memory, 1),
-        byte(&memory, 2),
-        byte(&memory, 3),
-        byte(&memory, 4),
-    ]
+    shift(&mut memory, 4, 0, 1);
+    memory
 }
 
 // The same row, to which five cells from the third on were copied: right of it the words are 0.
@@ -71,12 +42,6 @@ pub fn copy_left() -> [u8; 5]
     ensures { result ≡ 3 ∷ 4 ∷ 5 ∷ 0 ∷ 0 ∷ [] }
 {
     let mut memory = [1, 2, 3, 4, 5];
-    move_left(&mut memory);
-    [
-        byte(&memory, 0),
-        byte(&memory, 1),
-        byte(&memory, 2),
-        byte(&memory, 3),
-        byte(&memory, 4),
-    ]
+    shift(&mut memory, 5, 2, 0);
+    memory
 }

@@ -1,7 +1,6 @@
 // Worked examples, as theorems over the definitions that the contracts use and by the calls themselves.
 #![tactic(auto)]
 
-mod bytes;
 mod copying;
 mod painting;
 mod setting;

@@ -1,10 +1,9 @@
-ghost use Rattle.std.specs.Prelude.{◌≡◌, ◌<◌, ◌&&◌, [], ◌∷◌, map, length, pos, Some, None};
+ghost use Rattle.std.specs.Prelude.{◌≡◌, ℕ, ◌<◌, ◌&&◌, [], ◌∷◌, map, length, pos, slice_index, Some, None};
 ghost use Rattle.surface.specs.Rects.{Grown};
 ghost use Rattle.raster.specs.Packing.{packed};
 ghost use Rattle.pbm.specs.Bitmap.{octet};
 ghost use Rattle.examples.specs.Pictures.{block, painted, rect};
 
-use crate::bytes::byte;
 use drawing::{Area, paint};
 use ink::Solid;
 use layers::{Meter, bounds_are_unique};
@@ -44,11 +43,12 @@ fn paint_metered<S: Surface>(surface: &mut S) -> Option<Rect>
     bounds
 }
 
-// Paints a packed picture, and writes its rows.
+// Paints a packed picture, and writes its rows; one by one, since what `map` asks of its closure, that y < 4, stays open.
 fn paint_packed(memory: &mut [u8]) -> (Option<Rect>, [u8; 4])
     requires { length memory.old ≡ 4 }
     ensures picture { packed 8 4 memory.new ≡ painted (packed 8 4 memory.old) }
     ensures bounds { Grown None (λ x y. block x y && (packed 8 4 memory.old).opens x y) result.0 }
+    ensures bytes { (k : ℕ) → slice_index memory.new k < 256 }
     ensures rows { result.1 ≡ map (λ y. octet (painted (packed 8 4 memory.old)) y 0) (0 ∷ 1 ∷ 2 ∷ 3 ∷ []) }
 {
     let mut picture = Packed::new(memory, 8, 4);
@@ -80,12 +80,7 @@ pub fn paint_block() -> Painted
     let (bounds, rows) = paint_packed(&mut memory);
     bounds_are_unique();
     Painted {
-        memory: [
-            byte(&memory, 0),
-            byte(&memory, 1),
-            byte(&memory, 2),
-            byte(&memory, 3),
-        ],
+        memory,
         bounds,
         rows,
     }

@@ -1,9 +1,8 @@
-ghost use Rattle.std.specs.Prelude.{◌≡◌, [], ◌∷◌, length};
+ghost use Rattle.std.specs.Prelude.{◌≡◌, ℕ, ◌<◌, [], ◌∷◌, length, slice_index};
 ghost use Rattle.raster.specs.Packing.{packed};
 ghost use Rattle.lines.specs.Examples.{at};
 ghost use Rattle.examples.specs.Pictures.{inked, lined};
 
-use crate::bytes::byte;
 use drawing::Point;
 use lines::line;
 use pencil::{Pen, Pencil};
@@ -13,35 +12,24 @@ use raster::Packed;
 fn pencil() -> Pencil
     ensures { result ≡ inked }
 {
-    let mut pencil = Pencil::new();
-    pencil.pen = Pen::Solid { colour: 1 };
-    pencil
+    Pencil {
+        pen: Pen::Solid { colour: 1 },
+        ..Pencil::new()
+    }
 }
 
-fn trace_gentle(memory: &mut [u8])
+// Draws a line from (0, 0) in a picture of eight columns and three rows.
+fn trace(memory: &mut [u8], x: u8, y: u8)
     requires { length memory.old ≡ 3 }
-    ensures { packed 8 3 memory.new ≡ lined (at 5 2) (packed 8 3 memory.old) }
+    ensures picture { packed 8 3 memory.new ≡ lined (at x y) (packed 8 3 memory.old) }
+    ensures bytes { (k : ℕ) → slice_index memory.new k < 256 }
 {
     let mut picture = Packed::new(memory, 8, 3);
-    let _ = line(
-        &mut picture,
-        &pencil(),
-        Point { x: 0, y: 0 },
-        Point { x: 5, y: 2 },
-    );
-}
-
-fn trace_tied(memory: &mut [u8])
-    requires { length memory.old ≡ 3 }
-    ensures { packed 8 3 memory.new ≡ lined (at 4 2) (packed 8 3 memory.old) }
-{
-    let mut picture = Packed::new(memory, 8, 3);
-    let _ = line(
-        &mut picture,
-        &pencil(),
-        Point { x: 0, y: 0 },
-        Point { x: 4, y: 2 },
-    );
+    let to = Point {
+        x: i32::from(x),
+        y: i32::from(y),
+    };
+    let _ = line(&mut picture, &pencil(), Point { x: 0, y: 0 }, to);
 }
 
 // Eight columns and three rows, all 0, with a line from (0, 0) to (5, 2).
@@ -49,8 +37,8 @@ pub fn line_gently() -> [u8; 3]
     ensures { result ≡ 0b1100_0000 ∷ 0b0011_0000 ∷ 0b0000_1000 ∷ [] }
 {
     let mut memory = [0; 3];
-    trace_gentle(&mut memory);
-    [byte(&memory, 0), byte(&memory, 1), byte(&memory, 2)]
+    trace(&mut memory, 5, 2);
+    memory
 }
 
 // The same with a line from (0, 0) to (4, 2), which has ties.
@@ -58,6 +46,6 @@ pub fn line_with_ties() -> [u8; 3]
     ensures { result ≡ 0b1000_0000 ∷ 0b0110_0000 ∷ 0b0001_0000 ∷ [] }
 {
     let mut memory = [0; 3];
-    trace_tied(&mut memory);
-    [byte(&memory, 0), byte(&memory, 1), byte(&memory, 2)]
+    trace(&mut memory, 4, 2);
+    memory
 }

@@ -1,8 +1,8 @@
 -- What a run's answers say of the places where they were given.
-use Rattle.std.proofs.Common.{◌≡◌, ℕ, ◌+◌, ◌≤◌, Bool, true, false, cond, ◌&&◌, List, length, ℤ, pos, negsuc, ◌+ℤ◌, ◌-ℤ◌, ◌≤ℤ◌, Option, Some, None, Ok, Err, Result, sym, refl, subst, inl, inr, ⊎_elim, arith, w16, to_z}
+use Rattle.std.proofs.Common.{◌≡◌, ℕ, ◌≤◌, Bool, true, false, cond, List, length, ℤ, pos, negsuc, ◌+ℤ◌, ◌-ℤ◌, ◌≤ℤ◌, Ok, Err, Result, sym, refl, subst, inl, inr, ⊎_elim, arith, w16, to_z}
 use Rattle.std.proofs.ByRecursion.{All-push}
 use Rattle.std.proofs.lemmas.Int.{ints}
-use Rattle.std.proofs.lemmas.Bool.{true≢false}
+use Rattle.std.specs.Cmp.Derive.{both_true}
 use Rattle.codes.specs.Refusals.{numbered}
 use Rattle.codes.specs.declared.refusal.Refusal.{Refusal}
 use Rattle.codes.specs.declared.refusal.Refusal.TheVariants as refusal
@@ -30,7 +30,7 @@ use Rattle.player.specs.Views.{seen_record}
 use Rattle.player.specs.declared.fault.StepFault.{StepFault}
 use Rattle.player.specs.declared.progress.Phase.TheVariants.{Playing}
 use Rattle.player.specs.declared.progress.Progress.{Progress}
-use Rattle.player.proofs.Single.{one-step, phases, not_over}
+use Rattle.player.proofs.Single.{one-step, phases}
 use Rattle.laws.specs.Runs.{Short, ShortPoint, Standing, Says, Rightly, Answers, Starts}
 
 -- Numbers of 16 bits.
@@ -51,10 +51,6 @@ within a w v p q r = direct ((a -ℤ w) +ℤ v) (omega (arith, ints)) (omega (ar
 extended : (z : ℤ) → Short z → pos 0 ≤ℤ z → extent z ≡ true
 extended z p h = grind (arith, ints, p.most)
 
-both : (a b : Bool) → a ≡ true → b ≡ true → (a && b) ≡ true
-both true b e f = f
-both false b e f = e
-
 pub record Settled (c : DeviceContext) : Type 0 where
   pub position : ShortPoint c.position
   pub window : ShortPoint c.origins.window
@@ -64,11 +60,11 @@ pointed : (ps : List ℕ) (i : ℕ) (p : LogicalPoint) → PointAt ps i p → Sh
 pointed ps i p h = record { x = shortened p.x _ h.1; y = shortened p.y _ h.0 }
 
 at_cell : (c : DeviceContext) (p : LogicalPoint) → Settled c → ShortPoint p → placed (device c.origins p) ≡ true
-at_cell c p s h = both _ _ (within _ _ _ h.x s.window.x s.viewport.x) (within _ _ _ h.y s.window.y s.viewport.y)
+at_cell c p s h = both_true (within _ _ _ h.x s.window.x s.viewport.x) (within _ _ _ h.y s.window.y s.viewport.y)
 
 in_range : (c : DeviceContext) (ps : List ℕ) (i : ℕ) (a : LogicalArea) → Settled c → AreaAt ps i a → ranged (device_area c.origins a) ≡ true
 in_range c ps i a s (h, w, p, k, l) =
-    both _ _ (at_cell c a.at s (pointed ps (i + 4) a.at p)) (both _ _ (extended a.width (shortened a.width _ w) k) (extended a.height (shortened a.height _ h) l))
+    both_true (at_cell c a.at s (pointed ps (i + 4) a.at p)) (both_true (extended a.width (shortened a.width _ w) k) (extended a.height (shortened a.height _ h) l))
 
 -- Causes.
 
@@ -76,20 +72,11 @@ abbrev Cause : Refusal → Type 0
 Cause c = (6 ≤ numbered c) × (numbered c ≤ 11)
 
 breaks_listed : (f : ℕ) (ps : List ℕ) (c : Refusal) → Breaks f ps c → Cause c
-breaks_listed f ps refusal.Size h = absurd h
-breaks_listed f ps refusal.Memory h = absurd h
-breaks_listed f ps refusal.FileLength h = absurd h
-breaks_listed f ps refusal.Header h = absurd h
-breaks_listed f ps refusal.Frame h = absurd h
 breaks_listed f ps refusal.RecordSize h = (omega arith, omega arith)
 breaks_listed f ps refusal.Colour h = (omega arith, omega arith)
 breaks_listed f ps refusal.Operation h = (omega arith, omega arith)
 breaks_listed f ps refusal.Value h = (omega arith, omega arith)
-breaks_listed f ps refusal.TableFull h = absurd h
-breaks_listed f ps refusal.NoObject h = absurd h
-breaks_listed f ps refusal.Range h = absurd h
-breaks_listed f ps refusal.Buffer h = absurd h
-breaks_listed f ps refusal.Row h = absurd h
+breaks_listed f ps _ h = absurd h
 
 abbrev Fine : Result (Unit {0}) Refusal → Type 0
 Fine (Ok u) = Unit {0}
@@ -140,11 +127,6 @@ pens : (f : ℕ) → f ≡ 0x02FA → Listed f
 pens f e = inr (inr (inr (inr (inr (inr (inr (inr (inl e))))))))
 
 broken_listed : (f : ℕ) (ps : List ℕ) (c : Refusal) → Breaks f ps c → Listed f
-broken_listed f ps refusal.Size h = absurd h
-broken_listed f ps refusal.Memory h = absurd h
-broken_listed f ps refusal.FileLength h = absurd h
-broken_listed f ps refusal.Header h = absurd h
-broken_listed f ps refusal.Frame h = absurd h
 broken_listed f ps refusal.RecordSize h = sized-listed f (length ps) h
 broken_listed f ps refusal.Colour (inl h) = grounds f h.0
 broken_listed f ps refusal.Colour (inr (inl h)) = brushes f h.0
@@ -156,11 +138,7 @@ broken_listed f ps refusal.Value (inr (inl h)) = brushes f h.0
 broken_listed f ps refusal.Value (inr (inr (inl h))) = pens f h.0
 broken_listed f ps refusal.Value (inr (inr (inr (inl h)))) = paints f h.0
 broken_listed f ps refusal.Value (inr (inr (inr (inr h)))) = copies f h.0
-broken_listed f ps refusal.TableFull h = absurd h
-broken_listed f ps refusal.NoObject h = absurd h
-broken_listed f ps refusal.Range h = absurd h
-broken_listed f ps refusal.Buffer h = absurd h
-broken_listed f ps refusal.Row h = absurd h
+broken_listed f ps _ h = absurd h
 
 module _ (file : List ℕ) (p : ℕ) (l : Lies file p) where
   -- what a record at p comes to
@@ -170,11 +148,11 @@ module _ (file : List ℕ) (p : ℕ) (l : Lies file p) where
   drawn_tells : Listed (function file p) → (b : Bool) (region : ℤ → ℤ → Bool) (new : Meaning → ℤ → ℤ → ℕ) (c before : DeviceContext) → b ≡ true → Settled c
       → Tells (drawing (cond b (draw region new) (refuse refusal.Range)) c before)
   drawn_tells k true region new c before e s = (s, (l, k))
-  drawn_tells k false region new c before e s = absurd (true≢false (sym e))
+  drawn_tells k false region new c before e s = cc
 
   painted_tells : Listed (function file p) → (d b : Bool) (region : ℤ → ℤ → Bool) (new : Meaning → ℤ → ℤ → ℕ) (c before : DeviceContext) → d ≡ false → b ≡ true → Settled c
       → Tells (drawing (cond d (refuse refusal.Operation) (cond b (draw region new) (refuse refusal.Range))) c before)
-  painted_tells k true b region new c before d e s = absurd (true≢false d)
+  painted_tells k true b region new c before d e s = cc
   painted_tells k false b region new c before d e s = drawn_tells k b region new c before e s
 
   allowed_tells : Listed (function file p) → (r : Result (Unit {0}) Refusal) (c before : DeviceContext) → Fine r → Settled c → Settled before → Tells (allowed r c before)
@@ -187,11 +165,11 @@ module _ (file : List ℕ) (p : ℕ) (l : Lies file p) where
   record_tells view (shown.SetViewportOrg q) c h s = (record { position = s.position; window = s.window; viewport = pointed _ _ q h.1.1 }, (l, inr (inl (inr (inl h.0)))))
   record_tells view (shown.MoveTo q) c h s = (record { position = pointed _ _ q h.1.1; window = s.window; viewport = s.viewport }, (l, inr (inl (inr (inr (inr h.0))))))
   record_tells view (shown.LineTo q) c h s =
-      drawn_tells (inr (inl (inr (inr (inl h.0))))) _ _ _ _ _ (both _ _ (at_cell c c.position s s.position) (at_cell c _ s (pointed _ _ q h.1.1)))
+      drawn_tells (inr (inl (inr (inr (inl h.0))))) _ _ _ _ _ (both_true (at_cell c c.position s s.position) (at_cell c _ s (pointed _ _ q h.1.1)))
       (record { position = pointed _ _ q h.1.1; window = s.window; viewport = s.viewport })
   record_tells view (shown.PatBlt code a) c (f, n, k, d, h) s = painted_tells (paints _ f) _ _ _ _ _ _ d (in_range c _ 4 a s h) s
   record_tells view (shown.BitBlt code a q) c (f, n, k, e, h) s =
-      drawn_tells (copies _ f) _ _ _ _ _ (both _ _ (in_range c _ 10 a s h) (at_cell c q s (pointed _ 4 q e))) s
+      drawn_tells (copies _ f) _ _ _ _ _ (both_true (in_range c _ 10 a s h) (at_cell c q s (pointed _ 4 q e))) s
   record_tells view (shown.IntersectClipRect near far) c h s = (record { position = s.position; window = s.window; viewport = s.viewport }, (l, inr (inr (inr (inr (inl h.0))))))
   record_tells view (shown.SetRop2 m) c h s = (record { position = s.position; window = s.window; viewport = s.viewport }, (l, modes _ h.0))
   record_tells view (shown.SetBkColor w) c h s = (record { position = s.position; window = s.window; viewport = s.viewport }, (l, grounds _ h.0))
@@ -210,10 +188,10 @@ settled file t s = record { position = s.position; window = s.window; viewport =
 
 past_stands : (file : List ℕ) (e : ℕ) (r : Result Answer Refusal) (t : Progress) (c : DeviceContext)
     → t.phase ≡ Playing → Settled c → Says file t.place (told t.place r) → Standing file (past e r (with_context c t))
-past_stands file e (Ok answer.Taken) t c p s h = record { ended = λ q. absurd (not_over _ p q); position = s.position; window = s.window; viewport = s.viewport }
-past_stands file e (Ok answer.PassedOver) t c p s h = record { ended = λ q. absurd (not_over _ p q); position = s.position; window = s.window; viewport = s.viewport }
+past_stands file e (Ok answer.Taken) t c p s h = record { ended = λ q. cc; position = s.position; window = s.window; viewport = s.viewport }
+past_stands file e (Ok answer.PassedOver) t c p s h = record { ended = λ q. cc; position = s.position; window = s.window; viewport = s.viewport }
 past_stands file e (Ok answer.Ended) t c p s h = record { ended = λ q. h; position = s.position; window = s.window; viewport = s.viewport }
-past_stands file e (Err x) t c p s h = record { ended = λ q. absurd (not_over _ p q); position = s.position; window = s.window; viewport = s.viewport }
+past_stands file e (Err x) t c p s h = record { ended = λ q. cc; position = s.position; window = s.window; viewport = s.viewport }
 
 step_says : (view : ℕ → ℕ) (file : List ℕ) (t : Progress) (a : Result Answer StepFault) (t' : Progress) (m : Mark)
     → Steps view file t a t' m → Standing file t → Says file t.place a × Standing file t'
@@ -253,7 +231,7 @@ answers view file t m steps t' m' cells (next {steps = ss} {u = u} {v = v} {n = 
 
 pub starts : Starts
 starts file place slots = record {
-  ended = λ q. absurd (not_over Playing refl q);
+  ended = λ q. cc;
   position = record { x = record { least = omega (arith, ints); most = omega (arith, ints) }; y = record { least = omega (arith, ints); most = omega (arith, ints) } };
   window = record { x = record { least = omega (arith, ints); most = omega (arith, ints) }; y = record { least = omega (arith, ints); most = omega (arith, ints) } };
   viewport = record { x = record { least = omega (arith, ints); most = omega (arith, ints) }; y = record { least = omega (arith, ints); most = omega (arith, ints) } };

@@ -4,3 +4,4 @@ pub mod Frames
 pub mod Functions
 pub mod Decoding
 pub mod Exact
+pub mod Layers

@@ -1,5 +1,5 @@
 -- A step has one outcome.
-use Rattle.std.proofs.Common.{◌≡◌, ℕ, ◌+◌, ◌*◌, ◌⊎◌, List, length, Ok, Err, Result, sym, refl, ap, ◌∙◌, inl, inr, ⊎_elim, arith}
+use Rattle.std.proofs.Common.{◌≡◌, ℕ, ◌+◌, ◌*◌, ◌⊎◌, List, length, Ok, Err, Result, Some, None, Option, sym, refl, ap, ◌∙◌, inl, inr, ⊎_elim, arith}
 use Rattle.std.proofs.lemmas.Bool.{cases_lt}
 use Rattle.metafile.specs.Bytes.{long}
 use Rattle.metafile.specs.Exact.{Elsewhere}
@@ -17,8 +17,6 @@ use Rattle.player.specs.declared.fault.StepFault.TheVariants as fault
 use Rattle.player.specs.declared.progress.Phase.{Phase}
 use Rattle.player.specs.declared.progress.Phase.TheVariants.{Playing, Ended}
 use Rattle.player.specs.declared.progress.Progress.{Progress}
-use Rattle.player.specs.declared.stepping.Question.{Question}
-use Rattle.player.specs.declared.stepping.Question.TheVariants as tells
 
 pub lies_or_not : (b : List ℕ) (p : ℕ) → Lies b p ⊎ (Lies b p → ⊥)
 lies_or_not b p =
@@ -33,9 +31,6 @@ lies_or_not b p =
 pub phases : (p : Phase) → (p ≡ Playing) ⊎ (p ≡ Ended)
 phases Playing = inl refl
 phases Ended = inr refl
-
-pub not_over : (p : Phase) → p ≡ Playing → p ≡ Ended → ⊥
-not_over p e f = let z : ◌≡◌ {A = ℕ} 0 1 = cc in omega arith
 
 -- two records that are shown at one place do the same
 alike : (view : ℕ → ℕ) (c : DeviceContext) (r s : Record) → (r ≡ s) ⊎ Elsewhere r s → plays (seen_record view r) c ≡ plays (seen_record view s) c
@@ -58,20 +53,20 @@ some_step view file t =
 module _ (view : ℕ → ℕ) (file : List ℕ) (t : Progress) where
   pub one-step : (a b : Result Answer StepFault) (u v : Progress) (m n : Mark) → Steps view file t a u m → Steps view file t b v n → (a ≡ b) × (u ≡ v) × (m ≡ n)
   one-step a b u v m n (over p e g h) (over p' e' g' h') = (e ∙ sym e', g ∙ sym g', h ∙ sym h')
-  one-step a b u v m n (over p e g h) (lost p' l' e' g' h') = absurd (not_over _ p' p)
-  one-step a b u v m n (over p e g h) (broken c' p' b' e' g' h') = absurd (not_over _ p' p)
-  one-step a b u v m n (over p e g h) (played r' o' p' s' k' e' g' h') = absurd (not_over _ p' p)
-  one-step a b u v m n (lost p l e g h) (over p' e' g' h') = absurd (not_over _ p p')
+  one-step a b u v m n (over p e g h) (lost p' l' e' g' h') = cc
+  one-step a b u v m n (over p e g h) (broken c' p' b' e' g' h') = cc
+  one-step a b u v m n (over p e g h) (played r' o' p' s' k' e' g' h') = cc
+  one-step a b u v m n (lost p l e g h) (over p' e' g' h') = cc
   one-step a b u v m n (lost p l e g h) (lost p' l' e' g' h') = (e ∙ sym e', g ∙ sym g', h ∙ sym h')
   one-step a b u v m n (lost p l e g h) (broken c' p' b' e' g' h') = absurd (l b'.0)
   one-step a b u v m n (lost p l e g h) (played r' o' p' s' k' e' g' h') = absurd (l s'.0)
-  one-step a b u v m n (broken c p d e g h) (over p' e' g' h') = absurd (not_over _ p p')
+  one-step a b u v m n (broken c p d e g h) (over p' e' g' h') = cc
   one-step a b u v m n (broken c p d e g h) (lost p' l' e' g' h') = absurd (l' d.0)
   one-step a b u v m n (broken c p d e g h) (broken c' p' d' e' g' h') =
       let same : c ≡ c' = one_cause _ _ c c' d.1 d'.1 in
       (e ∙ ap (λ c. told t.place (Err c)) same ∙ sym e', g ∙ ap (λ c. past (end file t.place) (Err c) t) same ∙ sym g', h ∙ sym h')
   one-step a b u v m n (broken c p d e g h) (played r' o' p' s' k' e' g' h') = absurd (not_both _ _ r' c s'.1 d.1)
-  one-step a b u v m n (played r o p s k e g h) (over p' e' g' h') = absurd (not_over _ p p')
+  one-step a b u v m n (played r o p s k e g h) (over p' e' g' h') = cc
   one-step a b u v m n (played r o p s k e g h) (lost p' l' e' g' h') = absurd (l' s.0)
   one-step a b u v m n (played r o p s k e g h) (broken c' p' d' e' g' h') = absurd (not_both _ _ r c' s.1 d'.1)
   one-step a b u v m n (played r o p s k e g h) (played r' o' p' s' k' e' g' h') =
@@ -82,9 +77,9 @@ module _ (view : ℕ → ℕ) (file : List ℕ) (t : Progress) where
       )
 
 -- what the file tells of the next step comes true
-pub comes_true : (file : List ℕ) (t : Progress) (q : Result Question StepFault) → Tells file t q → Foretells file t q
-comes_true file t (Ok tells.Ended) h = λ view a t' m s. (one-step view file t a _ t' _ m _ s (over h refl refl refl)).0
-comes_true file t (Ok (tells.Record r)) h =
+pub comes_true : (file : List ℕ) (t : Progress) (q : Result (Option Record) StepFault) → Tells file t q → Foretells file t q
+comes_true file t (Ok None) h = λ view a t' m s. (one-step view file t a _ t' _ m _ s (over h refl refl refl)).0
+comes_true file t (Ok (Some r)) h =
     λ view a t' m s. (one-step view file t a _ t' _ m _ s (played r (plays (seen_record view r) t.context) h.0 h.1 refl refl refl refl)).0
 comes_true file t (Err (fault.File f)) (p, n, c, e) =
     λ view a t' m s. (one-step view file t a _ t' _ m _ s (lost p n refl refl refl)).0 ∙ (λ i. Err (fault.File (record { cause = sym c i; place = sym e i })))

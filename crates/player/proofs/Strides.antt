@@ -1,21 +1,22 @@
 -- Steps from what was found and what was done.
-use Rattle.std.proofs.Common.{◌≡◌, ℕ, List, Err, Result, sym, refl, ap, ◌∙◌}
+use Rattle.std.proofs.Common.{◌≡◌, ℕ, List, Ok, Err, Result, MatchResult, sym, refl, ap, ◌∙◌}
 use Rattle.surface.specs.Meaning.{Meaning}
 use Rattle.surface.specs.Rects.{Keep}
 use Rattle.pencil.specs.declared.brush.Brush.{Brush}
 use Rattle.pencil.specs.declared.brush.Brush.TheVariants as brush
 use Rattle.pencil.specs.declared.pen.Pen.{Pen}
 use Rattle.pencil.specs.declared.pen.Pen.TheVariants as pen
+use Rattle.codes.specs.declared.refusal.Refusal.{Refusal}
+use Rattle.metafile.specs.Frames.{end}
 use Rattle.metafile.specs.declared.record.Record.{Record}
 use Rattle.metafile.specs.declared.record.Record.TheVariants as of
 use Rattle.playback.specs.Records.{untouched, plays}
 use Rattle.playback.specs.declared.answer.Answer.{Answer}
-use Rattle.player.specs.Finding.{FoundAt}
-use Rattle.player.specs.Runs.{Obeys, Stepped, found_end, found_outcome, past, with_context, broken, played}
+use Rattle.player.specs.Finding.{FoundAt, ShowsAt, BreaksAt}
+use Rattle.player.specs.Runs.{Obeys, Stepped, found_outcome, past, with_context, broken, played}
 use Rattle.player.specs.Views.{seen_brush, seen_pen, seen_record}
 use Rattle.player.specs.declared.fault.StepFault.{StepFault}
 use Rattle.player.specs.declared.finding.Found.{Found}
-use Rattle.player.specs.declared.finding.Found.TheVariants as found
 use Rattle.player.specs.declared.progress.Phase.TheVariants.{Playing}
 use Rattle.player.specs.declared.progress.Progress.{Progress}
 
@@ -46,10 +47,14 @@ same_record (of.DeleteObject i) = refl
 same_record (of.Unlisted f rest) = refl
 
 module _ {S R : Type 0} (means : S → Meaning) (keeps : S → Keep) (rest : S → R) (file : List ℕ) (t t' : Progress) (s s' : S) (a : Result Answer StepFault) where
-  -- what was found was played
-  pub found-steps : (f : Found) → t.phase ≡ Playing → FoundAt file t.place f
-      → Obeys means keeps rest (found_end f) (found_outcome f t.context) a t t' s s' → Stepped means keeps rest (λ w. w) file t s a t' s'
-  found-steps (found.Record r e) p f o =
+  played_steps : (d : Result Record Refusal) (e : ℕ) → t.phase ≡ Playing → MatchResult d (ShowsAt file t.place) (BreaksAt file t.place) → e ≡ end file t.place
+      → Obeys means keeps rest e (found_outcome d t.context) a t t' s s' → Stepped means keeps rest (λ w. w) file t s a t' s'
+  played_steps (Ok r) e p f q o =
       let k = plays r t.context in
-      (k.mark, played r k p f.0 (ap (λ r. plays r t.context) (sym (same_record r))) o.answer (o.progress ∙ ap (λ e. past e k.answer (with_context k.context t)) f.1) refl, o.surface)
-  found-steps (found.Broken c e) p f o = (untouched, broken c p f.0 o.answer (o.progress ∙ ap (λ e. past e (Err c) t) f.1) refl, o.surface)
+      (k.mark, played r k p f (ap (λ r. plays r t.context) (sym (same_record r))) o.answer (o.progress ∙ ap (λ e. past e k.answer (with_context k.context t)) q) refl, o.surface)
+  played_steps (Err c) e p f q o = (untouched, broken c p f o.answer (o.progress ∙ ap (λ e. past e (Err c) t) q) refl, o.surface)
+
+  -- what was found was played
+  pub found_steps : (f : Found) → t.phase ≡ Playing → FoundAt file t.place f
+      → Obeys means keeps rest f.end (found_outcome f.decoded t.context) a t t' s s' → Stepped means keeps rest (λ w. w) file t s a t' s'
+  found_steps f p g o = played_steps f.decoded f.end p g.0 g.1 o

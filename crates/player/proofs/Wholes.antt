@@ -1,6 +1,5 @@
 -- Steps of a run, one after another.
-use Rattle.std.proofs.Common.{◌≡◌, ℕ, ◌+◌, ◌-◌, ◌*◌, ◌/◌, ◌<◌, ◌≤◌, Bool, true, false, not, ◌&&◌, ◌||◌, ◌⊎◌, List, [], ◌∷◌, ◌++◌, length, ℤ, Ok, Err, Result, sym, refl, ap, ◌∙◌, subst, inl, inr, arith}
-use Rattle.std.proofs.lemmas.Bool.{true≢false}
+use Rattle.std.proofs.Common.{◌≡◌, ℕ, ◌+◌, ◌≤◌, Bool, true, false, not, ◌&&◌, ◌||◌, List, [], ◌∷◌, ◌++◌, length, ℤ, Ok, Err, Result, sym, refl, ap, ◌∙◌, subst, arith}
 use Rattle.codes.specs.declared.refusal.Refusal.{Refusal}
 use Rattle.surface.specs.Meaning.{Meaning}
 use Rattle.surface.specs.Rects.{Keep, Kept}
@@ -10,7 +9,7 @@ use Rattle.playback.specs.Records.{Mark, untouched, marked, Marks}
 use Rattle.playback.specs.declared.answer.Answer.{Answer}
 use Rattle.playback.specs.declared.answer.Answer.TheVariants as answer
 use Rattle.player.specs.Runs.{Steps, over, lost, broken, played, Stepped, past, told}
-use Rattle.player.specs.Playing.{Plays, none, next, after, aimed, final, ongoing}
+use Rattle.player.specs.Playing.{Plays, none, next, after, aimed, final, ongoing, PlayedOut}
 use Rattle.player.specs.declared.fault.StepFault.{StepFault}
 use Rattle.player.specs.declared.progress.Progress.{Progress}
 use Rattle.player.specs.declared.whole.Step.{Step}
@@ -19,13 +18,13 @@ use Rattle.player.specs.declared.whole.Step.{Step}
 past-moves : (p e : ℕ) (r : Result Answer Refusal) (t : Progress) → final (told p r) ≡ false → (past e r t).place ≡ e
 past-moves p e (Ok answer.Taken) t f = refl
 past-moves p e (Ok answer.PassedOver) t f = refl
-past-moves p e (Ok answer.Ended) t f = absurd (true≢false f)
+past-moves p e (Ok answer.Ended) t f = cc
 past-moves p e (Err c) t f = refl
 
 pub moves : (view : ℕ → ℕ) (file : List ℕ) (t : Progress) (a : Result Answer StepFault) (t' : Progress) (m : Mark)
     → Steps view file t a t' m → final a ≡ false → (t.place + 6 ≤ t'.place) × (t'.place ≤ length file)
-moves view file t a t' m (over p e g h) f = absurd (true≢false (sym (ap final e) ∙ f))
-moves view file t a t' m (lost p l e g h) f = absurd (true≢false (sym (ap final e) ∙ f))
+moves view file t a t' m (over p e g h) f = cc
+moves view file t a t' m (lost p l e g h) f = cc
 moves view file t a t' m (broken c p b e g h) f =
     let q : t'.place ≡ end file t.place = ap (λ (t : Progress). t.place) g in
     (omega (arith, b.0.least, b.0.within), omega (arith, b.0.within))
@@ -84,7 +83,21 @@ module _ {S R : Type 0} (means : S → Meaning) (keeps : S → Keep) (rest : S �
         still = marks_rest k s₁ s₂ d.2 ∙ g.still;
       })
 
--- what was reserved suffices
-pub room : (n p q l cap : ℕ) → 6 * n + p ≤ q → (n ≡ 0) ⊎ (q ≤ l) → (l - p) / 6 + 1 ≤ cap → n < cap
-room n p q l cap h (inl e) c = omega arith
-room n p q l cap h (inr e) c = omega arith
+  -- the step that stops a run
+  pub going_out : (file file' : List ℕ) (t u v : Progress) (s s₁ s₂ : S) (steps steps' : List Step) (a : Result Answer StepFault)
+      → Going file t s steps u s₁ → ongoing steps ≡ true → file' ≡ file → Stepped means keeps rest (λ w. w) file' u s₁ a v s₂ → final a ≡ true
+      → steps' ≡ steps ++ (record { place = u.place; answer = a } ∷ []) → PlayedOut means keeps rest file t s steps' v s₂
+  going_out file file' t u v s s₁ s₂ steps steps' a g o f d n e =
+      let h = going_next file file' t u v s s₁ s₂ steps steps' a g f d e in
+      record {
+        cells = h.cells;
+        plays = h.plays;
+        kept = h.kept;
+        still = h.still;
+        stopped = record { front = steps; last = record { place = u.place; answer = a }; split = e; before = o; end = n };
+      }
+
+  -- any other step moves the run on, within the file
+  pub going_on : (file file' : List ℕ) (u v : Progress) (s s' : S) (a : Result Answer StepFault)
+      → Stepped means keeps rest (λ w. w) file' u s a v s' → file' ≡ file → final a ≡ false → (u.place + 6 ≤ v.place) × (v.place ≤ length file)
+  going_on file file' u v s s' a d f n = moves (λ w. w) file u a v d.0 (subst (λ b. Steps (λ w. w) b u a v d.0) f d.1) n

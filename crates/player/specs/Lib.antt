@@ -3,3 +3,4 @@ pub mod Finding
 pub mod Views
 pub mod Runs
 pub mod Playing
+pub mod Texts

@@ -1,5 +1,5 @@
 -- What one step of a run does.
-use Rattle.std.specs.Prelude.{◌≡◌, ℕ, ◌+◌, List, Ok, Err, Result}
+use Rattle.std.specs.Prelude.{◌≡◌, ℕ, ◌+◌, List, Ok, Err, Result, Some, None, Option}
 use Rattle.codes.specs.declared.refusal.Refusal.{Refusal}
 use Rattle.codes.specs.declared.refusal.Refusal.TheVariants.{Frame}
 use Rattle.surface.specs.Meaning.{Meaning}
@@ -15,13 +15,9 @@ use Rattle.player.specs.Finding.{ShowsAt, BreaksAt}
 use Rattle.player.specs.Views.{seen_record}
 use Rattle.player.specs.declared.fault.StepFault.{StepFault}
 use Rattle.player.specs.declared.fault.StepFault.TheVariants as fault
-use Rattle.player.specs.declared.finding.Found.{Found}
-use Rattle.player.specs.declared.finding.Found.TheVariants as found
 use Rattle.player.specs.declared.progress.Counts.{Counts}
 use Rattle.player.specs.declared.progress.Phase.TheVariants.{Playing, Ended}
 use Rattle.player.specs.declared.progress.Progress.{Progress}
-use Rattle.player.specs.declared.stepping.Question.{Question}
-use Rattle.player.specs.declared.stepping.Question.TheVariants as tells
 
 -- how many records were counted
 abbrev pub total : Counts → ℕ
@@ -69,28 +65,24 @@ pub record Obeys {S R : Type 0} (means : S → Meaning) (keeps : S → Keep) (re
   pub progress : t' ≡ past e o.answer (with_context o.context t)
   pub surface : Marks means keeps rest o.mark s s'
 
--- the outcome of what was found, and where it ends
-abbrev pub found_outcome : Found → DeviceContext → Outcome
-found_outcome (found.Record r e) c = plays r c
-found_outcome (found.Broken b e) c = record { answer = Err b; context = c; mark = untouched }
-
-abbrev pub found_end : Found → ℕ
-found_end (found.Record r e) = e
-found_end (found.Broken b e) = e
+-- the outcome of what was found
+abbrev pub found_outcome : Result Record Refusal → DeviceContext → Outcome
+found_outcome (Ok r) c = plays r c
+found_outcome (Err b) c = record { answer = Err b; context = c; mark = untouched }
 
 -- what the file tells of the next step
-abbrev pub Tells : List ℕ → Progress → Result Question StepFault → Type 0
-Tells file t (Ok tells.Ended) = t.phase ≡ Ended
-Tells file t (Ok (tells.Record r)) = (t.phase ≡ Playing) × ShowsAt file t.place r
+abbrev pub Tells : List ℕ → Progress → Result (Option Record) StepFault → Type 0
+Tells file t (Ok None) = t.phase ≡ Ended
+Tells file t (Ok (Some r)) = (t.phase ≡ Playing) × ShowsAt file t.place r
 Tells file t (Err (fault.File f)) = (t.phase ≡ Playing) × (Lies file t.place → ⊥) × (f.cause ≡ Frame) × (f.place ≡ t.place)
 Tells file t (Err (fault.Record f)) = (t.phase ≡ Playing) × BreaksAt file t.place f.cause × (f.place ≡ t.place)
 
 -- what the next step answers, by what was told
-abbrev pub foretold : (ℕ → ℕ) → Progress → Result Question StepFault → Result Answer StepFault
-foretold view t (Ok tells.Ended) = Ok answer.Ended
-foretold view t (Ok (tells.Record r)) = told t.place (plays (seen_record view r) t.context).answer
+abbrev pub foretold : (ℕ → ℕ) → Progress → Result (Option Record) StepFault → Result Answer StepFault
+foretold view t (Ok None) = Ok answer.Ended
+foretold view t (Ok (Some r)) = told t.place (plays (seen_record view r) t.context).answer
 foretold view t (Err f) = Err f
 
 -- whatever the next step is, it answers so
-abbrev pub Foretells : List ℕ → Progress → Result Question StepFault → Type 0
+abbrev pub Foretells : List ℕ → Progress → Result (Option Record) StepFault → Type 0
 Foretells file t q = (view : ℕ → ℕ) (a : Result Answer StepFault) (t' : Progress) (m : Mark) → Steps view file t a t' m → a ≡ foretold view t q

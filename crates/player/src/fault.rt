@@ -1,20 +1,22 @@
-ghost use Rattle.std.specs.Prelude.{◌≡◌};
+ghost use Rattle.std.specs.Prelude.{◌≡◌, Some};
 ghost use Rattle.codes.specs.Refusals.{numbered};
 ghost use Rattle.player.specs.Faults.{cause_of, place_of, layer_of};
-ghost use Rattle.player.specs.declared.fault.StepFault.TheVariants.{File};
+ghost use Rattle.player.specs.Texts.{fault_text};
+ghost use Rattle.player.specs.declared.fault.StepFault.TheVariants.{File, Record};
 
 use codes::Refusal;
 use metafile::{FileFault, Layer};
+use std::fmt;
 
 // Why the record at a place is refused.
-#[derive(Clone, Copy)]
+#[derive(Clone, Copy, PartialEq, Eq, Debug)]
 pub struct RecordFault {
     pub cause: Refusal,
     pub place: usize,
 }
 
 // Why a step is refused: a fault of the file, carried whole, or of a record.
-#[derive(Clone, Copy)]
+#[derive(Clone, Copy, PartialEq, Eq, Debug)]
 pub enum StepFault {
     File(FileFault),
     Record(RecordFault),
@@ -25,6 +27,14 @@ impl From<FileFault> for StepFault {
 
     fn from(fault: FileFault) -> StepFault {
         Self::File(fault)
+    }
+}
+
+impl From<RecordFault> for StepFault {
+    ghost from_gives = { λ f s. s ≡ Record f };
+
+    fn from(fault: RecordFault) -> StepFault {
+        Self::Record(fault)
     }
 }
 
@@ -62,5 +72,18 @@ impl StepFault {
             StepFault::File(_) => Layer::File,
             StepFault::Record(_) => Layer::Record,
         }
+    }
+}
+
+// NUMBER at byte PLACE (LAYER): CAUSE.
+impl fmt::Display for StepFault {
+    ghost output = { λ fault. Some (fault_text fault) };
+
+    fn fmt<W: fmt::Write>(&self, f: &mut fmt::Formatter<W>) -> fmt::Result {
+        let number = self.number();
+        let place = self.place();
+        let layer = self.layer();
+        let cause = self.cause();
+        write!(f, "{number} at byte {place} ({layer}): {cause}")
     }
 }

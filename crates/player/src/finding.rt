@@ -5,11 +5,11 @@ ghost use Rattle.player.specs.Finding.{FoundAt};
 use codes::Refusal;
 use metafile::{FileFault, Record, decode, frame_at};
 
-// What lies at a place: a record, or one that breaks a rule of its function; and where it ends.
+// What lies at a place: a record, or the rule of its function that it breaks; and where it ends.
 #[derive(Clone, Copy)]
-pub(crate) enum Found<'a> {
-    Record { record: Record<'a>, end: usize },
-    Broken { cause: Refusal, end: usize },
+pub(crate) struct Found<'a> {
+    pub decoded: Result<Record<'a>, Refusal>,
+    pub end: usize,
 }
 
 // What lies at a place of a file that ends with its bytes.
@@ -17,9 +17,8 @@ pub(crate) fn find(bytes: &[u8], place: usize) -> Result<Found<'_>, FileFault>
     ensures { MatchResult result (FoundAt bytes.now place) (Unframed bytes.now place) }
 {
     let frame = frame_at(bytes, place)?;
-    let end = place + 6 + frame.parameters.len();
-    match decode(frame) {
-        Ok(record) => Ok(Found::Record { record, end }),
-        Err(cause) => Ok(Found::Broken { cause, end }),
-    }
+    Ok(Found {
+        decoded: decode(frame),
+        end: place + 6 + frame.parameters.len(),
+    })
 }

@@ -11,5 +11,5 @@ mod whole;
 pub use fault::{RecordFault, StepFault};
 pub use progress::{Counts, Phase, Progress};
 pub use run::Run;
-pub use stepping::{Question, start};
-pub use whole::{Step, play};
+pub use stepping::start;
+pub use whole::{Step, is_final, play};

@@ -1,5 +1,5 @@
-ghost use Rattle.std.specs.Prelude.{◌≡◌, ◌+◌, ◌^◌, ◌<◌, ◌≤◌};
-ghost use Rattle.player.specs.Runs.{total, begun, found_end, found_outcome, Obeys, Stepped, Tells, Foretells};
+ghost use Rattle.std.specs.Prelude.{◌≡◌, ◌<◌};
+ghost use Rattle.player.specs.Runs.{begun, found_outcome, Obeys, Stepped, Tells, Foretells};
 
 use crate::fault::{RecordFault, StepFault};
 use crate::finding::{Found, find};
@@ -30,39 +30,23 @@ pub fn start<'a>(checked: Checked<'a>) -> Run<'a>
     }
 }
 
-// What lies at a run's place.
-#[derive(Clone, Copy)]
-pub enum Question<'a> {
-    Ended,
-    Record(Record<'a>),
-}
-
-impl Progress {
+impl<'a> Run<'a> {
     // Plays what was found at the place.
     fn obey<S: Surface>(&mut self, found: Found<'_>, surface: &mut S) -> Result<Answer, StepFault>
-        requires { (total self.old.counts + 1 < 2 ^ 64) × (self.old.place < found_end found) }
-        ensures obeyed { Obeys S.means S.keeps S.rest (found_end found.entry) (found_outcome found.entry self.old.context) result self.old self.new surface.old surface.new }
-        ensures counted { total self.new.counts + self.old.place ≤ total self.old.counts + self.new.place }
+        requires { self.old.progress.place < found.end }
+        ensures bytes { self.new.bytes.now ≡ self.old.bytes.now }
+        ensures obeyed { Obeys S.means S.keeps S.rest found.entry.end (found_outcome found.entry.decoded self.old.progress.context) result self.old.progress self.new.progress surface.old surface.new }
     {
-        let place = self.place;
-        match found {
-            Found::Broken { cause, end } => {
-                self.pass(Err(cause), end);
-                Err(StepFault::Record(RecordFault { cause, place }))
-            }
-            Found::Record { record, end } => {
-                let answer = self.context.play(record, surface);
-                self.pass(answer, end);
-                match answer {
-                    Ok(answer) => Ok(answer),
-                    Err(cause) => Err(StepFault::Record(RecordFault { cause, place })),
-                }
-            }
-        }
+        let place = self.progress.place;
+        // A match and no `and_then`: of what its closure would do to the surface, nothing would be known.
+        let answer = match found.decoded {
+            Ok(record) => self.progress.context.play(record, surface),
+            Err(cause) => Err(cause),
+        };
+        self.pass(answer, found.end);
+        answer.map_err(|cause| StepFault::Record(RecordFault { cause, place }))
     }
-}
 
-impl<'a> Run<'a> {
     // Plays the record at the run's place.
     pub fn step<S: Surface>(&mut self, surface: &mut S) -> Result<Answer, StepFault>
         ensures bytes { self.new.bytes.now ≡ self.old.bytes.now }
@@ -72,23 +56,22 @@ impl<'a> Run<'a> {
         match (self.progress.phase, find(self.bytes, place)) {
             (Phase::Ended, _) => Ok(Answer::Ended),
             (Phase::Playing, Err(fault)) => Err(StepFault::from(fault)),
-            (Phase::Playing, Ok(found)) => self.progress.obey(found, surface),
+            (Phase::Playing, Ok(found)) => self.obey(found, surface),
         }
     }
 
-    // What the next step comes to, as far as the file tells: that the run has ended, the record at its place, or a fault.
-    pub fn question(&self) -> Result<Question<'a>, StepFault>
+    // What the next step comes to, as far as the file tells: the record at its place, none where the run has ended, or a fault.
+    pub fn question(&self) -> Result<Option<Record<'a>>, StepFault>
         ensures tells { Tells self.now.bytes.now self.now.progress result }
         ensures foretold { Foretells self.now.bytes.now self.now.progress result }
     {
+        if self.progress.phase == Phase::Ended {
+            return Ok(None);
+        }
         let place = self.progress.place;
-        if let Phase::Ended = self.progress.phase {
-            return Ok(Question::Ended);
-        }
-        match find(self.bytes, place)? {
-            Found::Record { record, end: _ } => Ok(Question::Record(record)),
-            Found::Broken { cause, end: _ } => Err(StepFault::Record(RecordFault { cause, place })),
-        }
+        let found = find(self.bytes, place)?;
+        let record = found.decoded.map_err(|cause| RecordFault { cause, place })?;
+        Ok(Some(record))
     }
 
     // Takes the run away, and answers its counts.

@@ -15,14 +15,10 @@ pub struct Step {
 }
 
 // Whether no record can follow an answer: the run has ended, or no record lies at its place.
-fn is_final(answer: Result<Answer, StepFault>) -> bool
+pub fn is_final(answer: Result<Answer, StepFault>) -> bool
     ensures { result ≡ final answer }
 {
-    match answer {
-        Ok(Answer::Ended) => true,
-        Err(StepFault::File(_)) => true,
-        _ => false,
-    }
+    matches!(answer, Ok(Answer::Ended) | Err(StepFault::File(_)))
 }
 
 // Steps until the run has ended or a file fault comes. Memory is reserved first, so that want of it changes nothing.

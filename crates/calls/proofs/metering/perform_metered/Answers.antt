@@ -1,15 +1,12 @@
-use Rattle.std.proofs.Common.{◌≡◌, ◌+◌, [], ◌∷◌, ◌++◌, take, vec_items, sym, refl, ap, ◌∙◌, subst, arith, take_all}
+use Rattle.std.proofs.Common.{◌≡◌, ◌+◌, [], ◌∷◌, ◌++◌, take, sym, refl, ap, ◌∙◌, arith, take_all}
 use Rattle.std.proofs.lemmas.List.{take_more}
-use Rattle.calls.proofs.Bounds.{Measured, measured-none, measured-next, measured_metered}
+use Rattle.calls.proofs.Bounds.{measured-none, measured-next, measured_metered}
 use Rattle.calls.proofs.metering.perform_metered.Goals as goal
 
 pub loop-call-init : goal.loop-call-init
 loop-call-init g c =
     let made = c.in_ok-replies.ensures in
     (measured-none _ _ _ _ _ _ _ made.items, refl, made.len, made.capacity)
-
-pub push_reserved-requires : goal.push_reserved-requires
-push_reserved-requires g c = omega (arith, c.loop-call.invariant.2, c.loop-call.invariant.3)
 
 pub loop-call-preserved : goal.loop-call-preserved
 loop-call-preserved g c =
@@ -24,15 +21,7 @@ loop-call-preserved g c =
       omega (arith, c.push_reserved.ensures.capacity, i.3),
     )
 
-pub returns : goal.returns
-returns g c =
+pub returns-clause-performed : goal.returns-clause-performed
+returns-clause-performed g c =
     let m = c.args.meter.now in
-    let calls = c.args.calls.now in
-    let all : take c.loop-call.call-index calls ≡ calls = take_all _ _ c.loop-call-test.false in
-    let l : Measured g.I.Ink.shade c.args.run.now.bytes.now g.S.Surface.means g.S.Surface.rest calls c.args.run.now.progress m (vec_items c.loop-call.replies) c.loop-call.run.progress c.loop-call.meter
-    = subst (λ v. Measured g.I.Ink.shade c.args.run.now.bytes.now g.S.Surface.means g.S.Surface.rest v c.args.run.now.progress m (vec_items c.loop-call.replies) c.loop-call.run.progress c.loop-call.meter) all c.loop-call.invariant.0 in
-    record {
-      bytes = c.loop-call.invariant.1;
-      performed = measured_metered _ _ _ _ _ _ _ _ _ _ (g.S.Surface.sound m.below).shallow l;
-      untouched = tt;
-    }
+    measured_metered _ _ _ _ _ _ _ _ _ _ (g.S.Surface.sound m.below).shallow (rw (take_all _ _ c.loop-call-test.false) at c.loop-call.invariant.0)

@@ -1,16 +1,13 @@
-use Rattle.std.proofs.Common.{◌≡◌, ◌+◌, [], ◌∷◌, ◌++◌, map, take, vec_items, sym, refl, ap, ◌∙◌, subst, arith, take_all}
+use Rattle.std.proofs.Common.{◌≡◌, ◌+◌, [], ◌∷◌, ◌++◌, map, take, sym, refl, ap, ◌∙◌, arith, take_all}
 use Rattle.std.proofs.lemmas.List.{take_more, map_push}
 use Rattle.calls.specs.declared.call.MeterCall.TheVariants as act
-use Rattle.calls.proofs.Along.{Along, along_none, along_next, along_performed}
+use Rattle.calls.proofs.Along.{along_none, along_next, along_performed}
 use Rattle.calls.proofs.performing.perform.Goals as goal
 
 pub loop-call-init : goal.loop-call-init
 loop-call-init g c =
     let made = c.in_ok-replies.ensures in
     (along_none _ _ _ _ _ _ _ _ made.items, refl, made.len, made.capacity)
-
-pub push_reserved-requires : goal.push_reserved-requires
-push_reserved-requires g c = omega (arith, c.loop-call.invariant.2, c.loop-call.invariant.3)
 
 pub loop-call-preserved : goal.loop-call-preserved
 loop-call-preserved g c =
@@ -26,15 +23,7 @@ loop-call-preserved g c =
       omega (arith, c.push_reserved.ensures.capacity, i.3),
     )
 
-pub returns : goal.returns
-returns g c =
+pub returns-clause-performed : goal.returns-clause-performed
+returns-clause-performed g c =
     let s = c.args.surface.now in
-    let calls = c.args.calls.now in
-    let all : take c.loop-call.call-index calls ≡ calls = take_all _ _ c.loop-call-test.false in
-    let l : Along g.I.Ink.shade c.args.run.now.bytes.now g.S.Surface.means g.S.Surface.keeps g.S.Surface.rest (map act.Call calls) c.args.run.now.progress s (vec_items c.loop-call.replies) c.loop-call.run.progress c.loop-call.surface
-    = subst (λ v. Along g.I.Ink.shade c.args.run.now.bytes.now g.S.Surface.means g.S.Surface.keeps g.S.Surface.rest (map act.Call v) c.args.run.now.progress s (vec_items c.loop-call.replies) c.loop-call.run.progress c.loop-call.surface) all c.loop-call.invariant.0 in
-    record {
-      bytes = c.loop-call.invariant.1;
-      performed = along_performed _ _ _ _ _ _ _ _ _ _ _ (g.S.Surface.sound s).shallow l;
-      untouched = tt;
-    }
+    along_performed _ _ _ _ _ _ _ _ _ _ _ (g.S.Surface.sound s).shallow (rw (take_all _ _ c.loop-call-test.false) at c.loop-call.invariant.0)
