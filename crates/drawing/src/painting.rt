@@ -27,7 +27,7 @@ pub fn blend<S: Surface, P: Ink, Q: Ink>(
     if !area.in_range() {
         return Err(Refusal::Range);
     }
-    let shown = visible(area, pencil.clip, S::width(surface), S::height(surface));
+    let shown = visible(area, pencil.clip, surface.width(), surface.height());
     blend_rect(surface, shown, code, pattern, source);
     Ok(())
 }
