@@ -1,6 +1,6 @@
 use Rattle.std.proofs.Common.{sym, ◌∙◌}
 use Rattle.drawing.proofs.Independence.{uniform_is}
-use Rattle.drawing.proofs.filling.uniform.Goals as goal
+use Rattle.drawing.proofs.filling.Operation.uniform.Goals as goal
 
 pub returns : goal.returns
 returns g c a b d =
