@@ -47,7 +47,7 @@ impl<P: Ink, Q: Ink> Operation<'_, P, Q> {
             surface.old surface.new }
     {
         for x in area.left..area.right {
-            let v = self.word(x, y, S::word(surface, x, y));
+            let v = self.word(x, y, surface.word(x, y));
             surface.set(x, y, v);
         }
     }
