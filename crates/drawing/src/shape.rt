@@ -1,4 +1,4 @@
-ghost use Rattle.std.specs.Prelude.{◌≡◌};
+ghost use Rattle.std.specs.Prelude.{◌≡◌, ◌&&◌};
 ghost use Rattle.drawing.specs.Areas.{coordinate, extent, placed, ranged};
 
 // A cell, by its column and row.
@@ -35,7 +35,7 @@ impl Area {
             x: self.x,
             y: self.y,
         };
-        corner.in_range() && is_extent(self.w) && is_extent(self.h)
+        corner.in_range() && are_extents(self.w, self.h)
     }
 }
 
@@ -45,8 +45,8 @@ fn is_coordinate(z: i32) -> bool
     (-131072..131072).contains(&z)
 }
 
-fn is_extent(z: i32) -> bool
-    ensures { result ≡ extent z }
+fn are_extents(w: i32, h: i32) -> bool
+    ensures { result ≡ (extent w && extent h) }
 {
-    (0..32768).contains(&z)
+    (0..32768).contains(&w) && (0..32768).contains(&h)
 }

@@ -1,11 +1,8 @@
 use Rattle.std.proofs.Common.{arith, w32, SFits, rules}
 use Rattle.std.proofs.lemmas.Int.{ints, to_z-of_z}
-use Rattle.surface.proofs.Strokes.{drawn-none, drawn_like, drawn_as, swept}
+use Rattle.surface.proofs.Strokes.{drawn-none, drawn_like, swept}
 use Rattle.drawing.proofs.Rows.{rect-none, rect-all, blend_step}
 use Rattle.drawing.proofs.filling.Operation.blend.Goals as goal
-
-pub returns-in-Some : goal.returns-in-Some
-returns-in-Some g c = drawn_as _ _ _ _ _ _ _ _ _ (λ a b. c.in-Some.ensures a b _) c.fill.ensures
 
 pub loop-y-init : goal.loop-y-init
 loop-y-init g c = (omega (arith, ints), drawn-none _ _ _ _ _ (λ a b. rect-none c.args.part.now.rect _ a b (omega (arith, ints))))
