@@ -17,16 +17,16 @@ use surface::{Rect, Surface};
 // A copy to a rectangle, by a raster operation whose source is the picture itself, a shift away.
 #[derive(Drop)]
 struct Copying<'a, I> {
-    area: Rect,
+    target: Rect,
     shift: Shift,
     code: u8,
     ink: &'a I,
-    ghost reached: { Reached (holds area) shift },
+    ghost reached: { Reached (holds target) shift },
 }
 
 impl<I: Ink> Copying<'_, I> {
     fn copy_cell<S: Surface>(&self, surface: &mut S, x: i32, y: i32)
-        requires { holds self.now.area x y ≡ true }
+        requires { holds self.now.target x y ≡ true }
         ensures { Draws S.means S.keeps S.rest (strip x y 1) (copied self.now.code (I.shade self.now.ink.now) self.now.shift.dx self.now.shift.dy)
             surface.old surface.new }
     {
@@ -37,12 +37,12 @@ impl<I: Ink> Copying<'_, I> {
 
     // Copies to the cells in row y, in the order in which no cell is read after it was changed.
     fn copy_row<S: Surface>(&self, surface: &mut S, y: i32)
-        requires { between self.now.area.top self.now.area.bottom y ≡ true }
-        ensures { Draws S.means S.keeps S.rest (row self.now.area y) (copied self.now.code (I.shade self.now.ink.now) self.now.shift.dx self.now.shift.dy)
+        requires { between self.now.target.top self.now.target.bottom y ≡ true }
+        ensures { Draws S.means S.keeps S.rest (row self.now.target y) (copied self.now.code (I.shade self.now.ink.now) self.now.shift.dx self.now.shift.dy)
             surface.old surface.new }
     {
         let columns = Sweep {
-            places: self.area.left..self.area.right,
+            places: self.target.left..self.target.right,
             backwards: self.shift.dx < 0,
         };
         for x in columns {
@@ -52,11 +52,11 @@ impl<I: Ink> Copying<'_, I> {
 
     // Copies row by row, in the order in which no cell is read after it was changed.
     fn copy_rows<S: Surface>(&self, surface: &mut S)
-        ensures { Draws S.means S.keeps S.rest (holds self.now.area) (copied self.now.code (I.shade self.now.ink.now) self.now.shift.dx self.now.shift.dy)
+        ensures { Draws S.means S.keeps S.rest (holds self.now.target) (copied self.now.code (I.shade self.now.ink.now) self.now.shift.dx self.now.shift.dy)
             surface.old surface.new }
     {
         let rows = Sweep {
-            places: self.area.top..self.area.bottom,
+            places: self.target.top..self.target.bottom,
             backwards: self.shift.dy < 0,
         };
         for y in rows {
@@ -82,9 +82,9 @@ pub fn copy<S: Surface, I: Ink>(
     if !depends_on_source(code) {
         return blend(surface, pencil, area, code, ink, &Solid(0));
     }
-    let area = visible(area, pencil.clip, surface.width(), surface.height());
+    let target = visible(area, pencil.clip, surface.width(), surface.height());
     let copying = Copying {
-        area,
+        target,
         shift,
         code,
         ink,

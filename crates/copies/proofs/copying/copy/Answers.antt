@@ -16,13 +16,13 @@ returns-then-not-depends_on_source g c =
 pub invariant_of-copying : goal.invariant_of-copying
 invariant_of-copying g c =
     record {
-      reached = subst (λ d. Reached (holds c.visible-area.result) d) (sym c.in_ok-shift.ensures.1)
+      reached = subst (λ d. Reached (holds c.visible-target.result) d) (sym c.in_ok-shift.ensures.1)
           (area_reached c.args.area c.args.source _ c.in_ok-shift.ensures.0
-          (λ a b t. let e = and_parts (covers c.args.area a b && holds c.args.pencil.now.clip a b) _ (sym (c.visible-area.ensures.cells a b) ∙ t) in (and_parts (covers c.args.area a b) _ e.0).0));
+          (λ a b t. let e = and_parts (covers c.args.area a b && holds c.args.pencil.now.clip a b) _ (sym (c.visible-target.ensures.cells a b) ∙ t) in (and_parts (covers c.args.area a b) _ e.0).0));
     }
 
 pub returns : goal.returns
 returns g c =
     performed _ _ _ _ _ _ _ _ (cond-true _ _ _ c.in_ok-shift.ensures.0)
-    (drawn_shown _ _ _ _ _ _ _ _ _ _ _ (g.S.Surface.sound c.args.surface.now) c.width.ensures c.height.ensures c.visible-area.ensures.cells
+    (drawn_shown _ _ _ _ _ _ _ _ _ _ _ (g.S.Surface.sound c.args.surface.now) c.width.ensures c.height.ensures c.visible-target.ensures.cells
     (copied_at _ _ _ _ _ _ _ _ _ _ _ c.in_ok-shift.ensures.1 c.copy_rows.ensures))

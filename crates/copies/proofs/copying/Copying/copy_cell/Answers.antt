@@ -4,18 +4,6 @@ use Rattle.surface.proofs.Strokes.{drawn-one}
 use Rattle.copies.proofs.Sources.{near_fits, combine_is}
 use Rattle.copies.proofs.copying.Copying.copy_cell.Goals as goal
 
-pub overflow_add-x : goal.overflow_add-x
-overflow_add-x g c =
-    let f = c.ranges.x in
-    let d : SFits w32 c.args.self.now.shift.dx = search rules in
-    simp to_z-of_z (near_fits _ (c.args.self.now.reached.across c.args.x c.args.y c.requires))
-
-pub overflow_add-y : goal.overflow_add-y
-overflow_add-y g c =
-    let f = c.ranges.y in
-    let d : SFits w32 c.args.self.now.shift.dy = search rules in
-    simp to_z-of_z (near_fits _ (c.args.self.now.reached.down c.args.x c.args.y c.requires))
-
 pub returns : goal.returns
 returns g c =
     let fx = c.ranges.x in

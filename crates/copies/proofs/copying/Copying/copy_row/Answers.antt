@@ -7,9 +7,9 @@ use Rattle.copies.proofs.copying.Copying.copy_row.Goals as goal
 
 pub loop-x-init : goal.loop-x-init
 loop-x-init g c =
-    let q = c.args.self.now.area in
-    let l : SFits w32 c.args.self.now.area.left = search rules in
-    let r : SFits w32 c.args.self.now.area.right = search rules in
+    let q = c.args.self.now.target in
+    let l : SFits w32 c.args.self.now.target.left = search rules in
+    let r : SFits w32 c.args.self.now.target.right = search rules in
     let d : SFits w32 c.args.self.now.shift.dx = search rules in
     let y = c.ranges.y in
     let i = simp to_z-of_z at c.into_iter-x-iterator.ensures.into_iter_gives in
@@ -48,7 +48,7 @@ loop-x-preserved g c =
 
 pub returns : goal.returns
 returns g c =
-    let q = c.args.self.now.area in
+    let q = c.args.self.now.target in
     let i = c.loop-x.invariant in
     let t = c.in-None.ensures.steps in
     let y = c.ranges.y in

@@ -7,9 +7,9 @@ use Rattle.copies.proofs.copying.Copying.copy_rows.Goals as goal
 
 pub loop-y-init : goal.loop-y-init
 loop-y-init g c =
-    let q = c.args.self.now.area in
-    let l : SFits w32 c.args.self.now.area.top = search rules in
-    let r : SFits w32 c.args.self.now.area.bottom = search rules in
+    let q = c.args.self.now.target in
+    let l : SFits w32 c.args.self.now.target.top = search rules in
+    let r : SFits w32 c.args.self.now.target.bottom = search rules in
     let d : SFits w32 c.args.self.now.shift.dy = search rules in
     let i = simp to_z-of_z at c.into_iter-y-iterator.ensures.into_iter_gives in
     let s = ap (λ i. i.places.start) i in
@@ -21,14 +21,6 @@ loop-y-init g c =
       sweeping = sweeps _ _ _ _ _ s e;
       drawn = drawn-none _ _ _ _ _ (λ a b. ap (λ t. t && between q.left q.right a) (none_done q.top q.bottom _ _ b s e));
     }
-
-pub copy_row-requires : goal.copy_row-requires
-copy_row-requires g c =
-    let f : SFits w32 c.in-Some.y = search rules in
-    let i = c.loop-y.invariant in
-    let t = c.in-Some.ensures.steps in
-    let n = next_is _ _ c.args.self.now.shift.dy _ _ _ _ _ _ i.way i.sweeping t.1.0 t.1.1 in
-    simp to_z-of_z n.here
 
 pub loop-y-preserved : goal.loop-y-preserved
 loop-y-preserved g c =
@@ -46,7 +38,7 @@ loop-y-preserved g c =
 
 pub returns : goal.returns
 returns g c =
-    let q = c.args.self.now.area in
+    let q = c.args.self.now.target in
     let i = c.loop-y.invariant in
     let t = c.in-None.ensures.steps in
     drawn_like _ _ _ _ _ _ _ _ _ (λ a b. ap (λ p. (p && between q.left q.right a) && (g.S.Surface.means c.args.surface.now).opens a b) (all_done q.top q.bottom _ _ b t.1)

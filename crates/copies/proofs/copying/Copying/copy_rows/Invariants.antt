@@ -12,7 +12,7 @@ invariant-loop-y g l =
       can : (goal.iterator-loop-y g).can_next l.y-iterator;
       ends : (goal.iterator-loop-y g).is_finite l.y-iterator;
       way : l.y-iterator.backwards ≡ lt_z l.self.shift.dy (pos 0);
-      sweeping : Sweeping l.self.area.top l.self.area.bottom l.y-iterator.backwards l.y-iterator.places.start l.y-iterator.places.end;
-      drawn : Draws g.S.Surface.means g.S.Surface.keeps g.S.Surface.rest (λ a b. done l.self.area.top l.self.area.bottom l.y-iterator.places.start l.y-iterator.places.end b && between l.self.area.left l.self.area.right a)
+      sweeping : Sweeping l.self.target.top l.self.target.bottom l.y-iterator.backwards l.y-iterator.places.start l.y-iterator.places.end;
+      drawn : Draws g.S.Surface.means g.S.Surface.keeps g.S.Surface.rest (λ a b. done l.self.target.top l.self.target.bottom l.y-iterator.places.start l.y-iterator.places.end b && between l.self.target.left l.self.target.right a)
           (copied l.self.code (g.I.Ink.shade l.self.ink.now) l.self.shift.dx l.self.shift.dy) l.initial.surface l.surface;
     }
