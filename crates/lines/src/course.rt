@@ -18,6 +18,7 @@ pub(crate) struct Course {
     aside: u32,
     rest: u32,
     ghost sides: { (short ≡ shorter segment.from segment.to) × (long ≡ longer segment.from segment.to) },
+    ghost small: { (short ≤ long) × (long < 262144) },
     ghost within: { places.end ≤ long },
     ghost exact: { Aside short long places.start aside rest },
 }

@@ -13,6 +13,7 @@ invariant_of-result c =
     let p = sides_small c.args.segment.from c.args.segment.to c.args.segment.placed in
     record {
       sides = (c.short_side-short.ensures, c.long_side-long.ensures);
+      small = (omega arith, omega arith);
       within = omega arith;
       exact = aside_of c.args.places.start c.short_side-short.result c.long_side-long.result _ _ _ _ (omega arith) (omega arith) c.from.ensures c.from-2.ensures c.from-3.ensures c.from-part.ensures;
     }
