@@ -1,13 +1,14 @@
 -- The sources of an area's cells.
-use Rattle.std.proofs.Common.{◌≡◌, ℕ, true, false, ◌&&◌, ℤ, ◌+ℤ◌, ◌-ℤ◌, sym, ap, ◌∙◌, arith, w32, SFits}
+use Rattle.std.proofs.Common.{◌≡◌, ℕ, true, false, ◌&&◌, ℤ, ◌+ℤ◌, ◌-ℤ◌, sym, ap, ◌∙◌, subst, arith, w32, SFits}
 use mathlib.Core.Path.{fun_ext}
 use Rattle.std.proofs.lemmas.Int.{ints}
 use Rattle.std.proofs.lemmas.Bool.{and_parts, cond-true}
 use Rattle.codes.specs.Operations.{combined, sourced}
 use Rattle.codes.specs.declared.refusal.Refusal.TheVariants.{Range}
-use Rattle.surface.specs.Meaning.{strip}
-use Rattle.surface.specs.Rects.{holds}
-use Rattle.surface.proofs.Strokes.{Cells}
+use Rattle.surface.specs.Rects.{Keep, holds}
+use Rattle.surface.specs.Drawing.{Drawn}
+use Rattle.surface.specs.Meaning.{Meaning}
+use Rattle.surface.proofs.Strokes.{Cells, Shades}
 use Rattle.drawing.specs.Areas.{between, coordinate, covers, extent, placed, ranged}
 use Rattle.drawing.specs.Tasks.{blended, blend_task, copied, copy_task, draw, refuse}
 use Rattle.drawing.proofs.Independence.{unsourced}
@@ -16,9 +17,6 @@ use Rattle.drawing.specs.declared.shape.Area.{Area}
 use Rattle.drawing.specs.declared.shape.Point.{Point}
 use Rattle.copies.specs.Shifts.{Reached, near, towards}
 use Rattle.copies.specs.declared.shift.Shift.{Shift}
-
-pub strip_here : (x y : ℤ) → strip x y 1 x y ≡ true
-strip_here x y = grind (arith, ints)
 
 pub near_fits : (z : ℤ) → near z ≡ true → SFits w32 z
 near_fits z h = grind (arith, ints)
@@ -47,9 +45,6 @@ parts r p e =
     let s = and_parts (extent r.w) (extent r.h) b.1 in
     record { x = c.0; y = c.1; w = s.0; h = s.1; px = q.0; py = q.1 }
 
-pub reached_part : (r s : Cells) (d : Shift) → ((a b : ℤ) → s a b ≡ true → r a b ≡ true) → Reached r d → Reached s d
-reached_part r s d h p = record { across = λ a b t. p.across a b (h a b t); down = λ a b t. p.down a b (h a b t) }
-
 -- the sources of an area's cells are near
 pub area_reached : (r : Area) (p : Point) (cells : Cells) → (ranged r && placed p) ≡ true → ((a b : ℤ) → cells a b ≡ true → covers r a b ≡ true) → Reached cells (towards r p)
 area_reached r p cells e h =
@@ -73,3 +68,8 @@ sourceless p r s code shade e n =
     cond-true (ranged r) (draw cells (blended code shade (λ _ _. 0))) (refuse Range) (and_parts (ranged r) (placed s) e).0
     ∙ ap (draw cells) words
     ∙ sym (cond-true (ranged r && placed s) (draw cells (copied code shade (s.x -ℤ r.x) (s.y -ℤ r.y))) (refuse Range) e)
+
+module _ {R : Type 0} where
+  pub copied_at : (r : Cells) (code : ℕ) (ink : Shades) (d d' : Shift) (m m' : Meaning) (k k' : Keep) (z z' : R) → d ≡ d'
+      → Drawn r (copied code ink d.dx d.dy m) m k z m' k' z' → Drawn r (copied code ink d'.dx d'.dy m) m k z m' k' z'
+  copied_at r code ink d d' m m' k k' z z' e = subst (λ d. Drawn r (copied code ink d.dx d.dy m) m k z m' k' z') e

@@ -1,78 +1,91 @@
--- A copy, one cell or one row on.
-use Rattle.std.proofs.Common.{◌≡◌, ℕ, Bool, true, false, ◌&&◌, ◌||◌, ℤ, pos, ◌+ℤ◌, ◌≤ℤ◌, ◌<ℤ◌, ap, ◌∙◌, subst, arith}
-use lib.Signed.{le_z, lt_z}
+-- Sweeps over places, and copies in their order.
+use Rattle.std.proofs.Common.{◌≡◌, ℕ, Bool, true, false, not, ◌&&◌, ◌||◌, ℤ, pos, ◌+ℤ◌, ◌≤ℤ◌, ◌<ℤ◌, ap, ◌∙◌, refl, arith}
+use lib.Signed.{lt_z}
 use Rattle.std.proofs.lemmas.Int.{ints}
+use Rattle.std.proofs.lemmas.Bool.{and_parts}
 use Rattle.codes.specs.Operations.{combined}
 use Rattle.surface.specs.Meaning.{Meaning, spans, strip}
-use Rattle.surface.specs.Rects.{Keep, holds}
+use Rattle.surface.specs.Rects.{Keep}
 use Rattle.surface.specs.Drawing.{Drawn}
-use Rattle.surface.specs.declared.rect.Rect.{Rect}
 use Rattle.surface.proofs.Strokes.{Cells, Shades, drawn-more, drawn-word}
 use Rattle.drawing.specs.Areas.{between, row}
 use Rattle.drawing.specs.Tasks.{copied}
-use Rattle.drawing.proofs.Rows.{row_more, row_fresh, rect_more, rect-fresh}
+use Rattle.surface.specs.declared.rect.Rect.{Rect}
 use Rattle.copies.specs.declared.shift.Shift.{Shift}
+use Rattle.copies.specs.Sweeps.{Takes}
 
-pub row_cell : (l r y x a b : ℤ) → l ≤ℤ x → lt_z x r ≡ true → strip x y 1 a b ≡ true → (between l r a && spans y 1 b) ≡ true
-row_cell l r y x a b h t s = grind (arith, ints)
+-- of the places from l up to r those that are done, where those from s up to e are left
+abbrev pub done : ℤ → ℤ → ℤ → ℤ → ℤ → Bool
+done l r s e z = between l r z && not (between s e z)
 
-right_kept : (p : Bool) (x y u a b : ℤ) → pos 0 ≤ℤ u → strip x y 1 a b ≡ true → (p && lt_z (a +ℤ u) x) ≡ false
-right_kept p x y u a b n h = grind (arith, ints)
+-- a sweep over the places from l up to r that has left those from s up to e
+pub record Sweeping (l r : ℤ) (backwards : Bool) (s e : ℤ) : Type 0 where
+  pub first : l ≤ℤ s
+  pub last : e ≤ℤ r
+  pub forth : backwards ≡ false → e ≡ r
+  pub back : backwards ≡ true → s ≡ l
 
--- leftwards, where the cells from x on are done
-pub left-none : (l r a : ℤ) (p : Bool) → ((between l r a && p) && le_z r a) ≡ false
-left-none l r a p = grind (arith, ints)
+-- Place x is done next: it is one that was left, and the place that lies u further is not done before it.
+pub record Next (l r u s e x s' e' : ℤ) : Type 0 where
+  pub here : between l r x ≡ true
+  pub more : (z : ℤ) → done l r s' e' z ≡ (done l r s e z || spans x 1 z)
+  pub fresh : (z : ℤ) → spans x 1 z ≡ true → done l r s e z ≡ false
+  pub kept : (z : ℤ) → spans x 1 z ≡ true → done l r s e (z +ℤ u) ≡ false
 
-left_more : (l r y x x' a b : ℤ) → x ≤ℤ r → l ≤ℤ x' → x ≡ x' +ℤ pos 1
-    → ((between l r a && spans y 1 b) && le_z x' a) ≡ (((between l r a && spans y 1 b) && le_z x a) || strip x' y 1 a b)
-left_more l r y x x' a b h t e = grind (arith, ints)
+pub sweeps : (l r s e : ℤ) (backwards : Bool) → s ≡ l → e ≡ r → Sweeping l r backwards s e
+sweeps l r s e backwards f g = record { first = omega (arith, ints); last = omega (arith, ints); forth = λ _. g; back = λ _. f }
 
-left-fresh : (p : Bool) (x x' y a b : ℤ) → x ≡ x' +ℤ pos 1 → strip x' y 1 a b ≡ true → (p && le_z x a) ≡ false
-left-fresh p x x' y a b e h = grind (arith, ints)
+pub none_done : (l r s e z : ℤ) → s ≡ l → e ≡ r → done l r s e z ≡ false
+none_done l r s e z f g = grind (arith, ints)
 
-left_kept : (p : Bool) (x x' y u a b : ℤ) → u <ℤ pos 0 → x ≡ x' +ℤ pos 1 → strip x' y 1 a b ≡ true → (p && le_z x (a +ℤ u)) ≡ false
-left_kept p x x' y u a b n e h = grind (arith, ints)
+pub all_done : (l r s e z : ℤ) → e ≤ℤ s → done l r s e z ≡ between l r z
+all_done l r s e z h = grind (arith, ints)
 
-pub left_cell : (l r y x x' a b : ℤ) → x ≤ℤ r → lt_z l x ≡ true → x ≡ x' +ℤ pos 1 → strip x' y 1 a b ≡ true → (between l r a && spans y 1 b) ≡ true
-left_cell l r y x x' a b h t e s = grind (arith, ints)
+next_forth : (l r u s e x s' e' : ℤ) → pos 0 ≤ℤ u → l ≤ℤ s → e ≡ r → s <ℤ e → x ≡ s → s' ≡ s +ℤ pos 1 → e' ≡ e → Next l r u s e x s' e'
+next_forth l r u s e x s' e' n f g h a b c = record {
+  here = grind (arith, ints);
+  more = λ z. grind (arith, ints);
+  fresh = λ z t. grind (arith, ints);
+  kept = λ z t. grind (arith, ints);
+}
 
-pub left-all : (l r y x a b : ℤ) → x ≤ℤ l → (between l r a && spans y 1 b) ≡ true → le_z x a ≡ true
-left-all l r y x a b h t = grind (arith, ints)
+next_back : (l r u s e x s' e' : ℤ) → u <ℤ pos 0 → s ≡ l → e ≤ℤ r → s <ℤ e → s' ≡ s → e' ≡ x → e ≡ x +ℤ pos 1 → Next l r u s e x s' e'
+next_back l r u s e x s' e' n f g h a b c = record {
+  here = grind (arith, ints);
+  more = λ z. grind (arith, ints);
+  fresh = λ z t. grind (arith, ints);
+  kept = λ z t. grind (arith, ints);
+}
 
-pub le_z_true : (a b : ℤ) → le_z a b ≡ true → a ≤ℤ b
-le_z_true a b h = grind (arith, ints)
+not_below : (u : ℤ) → false ≡ lt_z u (pos 0) → pos 0 ≤ℤ u
+not_below u h = grind (arith, ints)
 
-pub le_z_false : (a b : ℤ) → le_z a b ≡ false → b <ℤ a
-le_z_false a b h = grind (arith, ints)
+below : (u : ℤ) → true ≡ lt_z u (pos 0) → u <ℤ pos 0
+below u h = grind (arith, ints)
 
-pub lt_z_false : (a b : ℤ) → lt_z a b ≡ false → b ≤ℤ a
-lt_z_false a b h = grind (arith, ints)
+pub next_is : (l r u s e x s' e' : ℤ) (backwards : Bool) → backwards ≡ lt_z u (pos 0) → Sweeping l r backwards s e → s <ℤ e
+    → Takes backwards s e x s' e' → Next l r u s e x s' e'
+next_is l r u s e x s' e' false d w h t = next_forth l r u s e x s' e' (not_below u d) w.first (w.forth refl) h t.0 t.1 t.2
+next_is l r u s e x s' e' true d w h t = next_back l r u s e x s' e' (below u d) (w.back refl) w.last h t.0 t.1 t.2
 
-down_kept : (s : Rect) (y v a b : ℤ) (p : Bool) → pos 0 ≤ℤ v → row s y a b ≡ true → (p && lt_z (b +ℤ v) y) ≡ false
-down_kept s y v a b p n h = grind (arith, ints)
+pub sweeps_on : (l r s e x s' e' : ℤ) (backwards : Bool) → Sweeping l r backwards s e → s <ℤ e → Takes backwards s e x s' e' → Sweeping l r backwards s' e'
+sweeps_on l r s e x s' e' false w h t =
+    let f = w.first in
+    let k = w.forth refl in
+    record { first = omega (arith, ints); last = omega (arith, ints); forth = λ _. omega (arith, ints); back = λ b. absurd cc }
+sweeps_on l r s e x s' e' true w h t =
+    let f = w.last in
+    let k = w.back refl in
+    record { first = omega (arith, ints); last = omega (arith, ints); forth = λ b. absurd cc; back = λ _. omega (arith, ints) }
 
-pub rect-row : (s : Rect) (y a b : ℤ) → s.top ≤ℤ y → lt_z y s.bottom ≡ true → row s y a b ≡ true → holds s a b ≡ true
-rect-row s y a b h t e = grind (arith, ints)
+pub both : (p q : Bool) → p ≡ true → q ≡ true → (p && q) ≡ true
+both p q f g = grind arith
 
--- upwards, where the rows from y on are done
-pub up_none : (s : Rect) (y a b : ℤ) → y ≡ s.bottom → (holds s a b && le_z y b) ≡ false
-up_none s y a b e = grind (arith, ints)
+pub swap : (p q : Bool) → (p && q) ≡ (q && p)
+swap p q = grind arith
 
-up_more : (s : Rect) (y y' a b : ℤ) → y ≤ℤ s.bottom → s.top ≤ℤ y' → y ≡ y' +ℤ pos 1
-    → (holds s a b && le_z y' b) ≡ ((holds s a b && le_z y b) || row s y' a b)
-up_more s y y' a b h t e = grind (arith, ints)
-
-up_kept : (s : Rect) (y y' v a b : ℤ) (p : Bool) → v ≤ℤ pos 0 → y ≡ y' +ℤ pos 1 → row s y' a b ≡ true → (p && le_z y (b +ℤ v)) ≡ false
-up_kept s y y' v a b p n e h = grind (arith, ints)
-
-up_fresh : (s : Rect) (y y' a b : ℤ) (p : Bool) → y ≡ y' +ℤ pos 1 → row s y' a b ≡ true → (p && le_z y b) ≡ false
-up_fresh s y y' a b p e h = grind (arith, ints)
-
-pub up_row : (s : Rect) (y y' a b : ℤ) → y ≤ℤ s.bottom → lt_z s.top y ≡ true → y ≡ y' +ℤ pos 1 → row s y' a b ≡ true → holds s a b ≡ true
-up_row s y y' a b h t e i = grind (arith, ints)
-
-pub up_all : (s : Rect) (y a b : ℤ) → y ≤ℤ s.top → holds s a b ≡ true → le_z y b ≡ true
-up_all s y a b h t = grind (arith, ints)
+spread : (d p q : Bool) → ((d || p) && q) ≡ ((d && q) || (q && p))
+spread d p q = grind arith
 
 module _ {R : Type 0} where
   -- a copy and then another, to other cells, from cells that the first left alone
@@ -84,35 +97,21 @@ module _ {R : Type 0} where
       drawn-more q r s _ _ m m' m'' k k' k'' z z' z'' split
       (λ a b t. ap (λ w. combined code (ink a b) w (m'.word a b)) (same _ _ (kept a b t)) ∙ ap (combined code (ink a b) _) (same a b (fresh a b t))) so_far
 
-  pub copied_at : (r : Cells) (code : ℕ) (ink : Shades) (d d' : Shift) (m m' : Meaning) (k k' : Keep) (z z' : R) → d ≡ d'
-      → Drawn r (copied code ink d.dx d.dy m) m k z m' k' z' → Drawn r (copied code ink d'.dx d'.dy m) m k z m' k' z'
-  copied_at r code ink d d' m m' k k' z z' e = subst (λ d. Drawn r (copied code ink d.dx d.dy m) m k z m' k' z') e
-
   module _ (code : ℕ) (ink : Shades) (d : Shift) (m m' m'' : Meaning) (k k' k'' : Keep) (z z' z'' : R) where
-    -- rightwards: the cells left of x are done
-    pub right-step : (l r y x x' : ℤ) → l ≤ℤ x → lt_z x r ≡ true → x' ≡ x +ℤ pos 1 → pos 0 ≤ℤ d.dx
-        → Drawn (λ a b. (between l r a && spans y 1 b) && lt_z a x) (copied code ink d.dx d.dy m) m k z m' k' z' → Drawn (strip x y 1) (copied code ink d.dx d.dy m') m' k' z' m'' k'' z''
-        → Drawn (λ a b. (between l r a && spans y 1 b) && lt_z a x') (copied code ink d.dx d.dy m) m k z m'' k'' z''
-    right-step l r y x x' h t e n = copied_more _ _ _ code ink d.dx d.dy m m' m'' k k' k'' z z' z''
-        (λ a b. row_more l r y x x' a b h t e) (λ a b. row_fresh _ x y a b) (λ a b. right_kept _ x y d.dx a b n)
+    -- one cell of a row on
+    pub cell_step : (l r y s e x s' e' : ℤ) → Next l r d.dx s e x s' e'
+        → Drawn (λ a b. done l r s e a && spans y 1 b) (copied code ink d.dx d.dy m) m k z m' k' z' → Drawn (strip x y 1) (copied code ink d.dx d.dy m') m' k' z' m'' k'' z''
+        → Drawn (λ a b. done l r s' e' a && spans y 1 b) (copied code ink d.dx d.dy m) m k z m'' k'' z''
+    cell_step l r y s e x s' e' n = copied_more _ _ _ code ink d.dx d.dy m m' m'' k k' k'' z z' z''
+        (λ a b. ap (λ t. t && spans y 1 b) (n.more a) ∙ spread (done l r s e a) (spans x 1 a) (spans y 1 b))
+        (λ a b t. ap (λ t. t && spans y 1 b) (n.fresh a (and_parts (spans y 1 b) (spans x 1 a) t).1))
+        (λ a b t. ap (λ t. t && spans y 1 (b +ℤ d.dy)) (n.kept a (and_parts (spans y 1 b) (spans x 1 a) t).1))
 
-    -- leftwards: the cells from x on are done
-    pub left_step : (l r y x x' : ℤ) → x ≤ℤ r → l ≤ℤ x' → x ≡ x' +ℤ pos 1 → d.dx <ℤ pos 0
-        → Drawn (λ a b. (between l r a && spans y 1 b) && le_z x a) (copied code ink d.dx d.dy m) m k z m' k' z' → Drawn (strip x' y 1) (copied code ink d.dx d.dy m') m' k' z' m'' k'' z''
-        → Drawn (λ a b. (between l r a && spans y 1 b) && le_z x' a) (copied code ink d.dx d.dy m) m k z m'' k'' z''
-    left_step l r y x x' h t e n = copied_more _ _ _ code ink d.dx d.dy m m' m'' k k' k'' z z' z''
-        (λ a b. left_more l r y x x' a b h t e) (λ a b. left-fresh _ x x' y a b e) (λ a b. left_kept _ x x' y d.dx a b n e)
-
-    -- downwards: the rows above y are done
-    pub down_step : (s : Rect) (y y' : ℤ) → s.top ≤ℤ y → lt_z y s.bottom ≡ true → y' ≡ y +ℤ pos 1 → pos 0 ≤ℤ d.dy
-        → Drawn (λ a b. holds s a b && lt_z b y) (copied code ink d.dx d.dy m) m k z m' k' z' → Drawn (row s y) (copied code ink d.dx d.dy m') m' k' z' m'' k'' z''
-        → Drawn (λ a b. holds s a b && lt_z b y') (copied code ink d.dx d.dy m) m k z m'' k'' z''
-    down_step s y y' h t e n = copied_more _ _ _ code ink d.dx d.dy m m' m'' k k' k'' z z' z''
-        (λ a b. rect_more s y y' a b h t e) (rect-fresh s y) (λ a b. down_kept s y d.dy a b _ n)
-
-    -- upwards: the rows from y on are done
-    pub up_step : (s : Rect) (y y' : ℤ) → y ≤ℤ s.bottom → s.top ≤ℤ y' → y ≡ y' +ℤ pos 1 → d.dy ≤ℤ pos 0
-        → Drawn (λ a b. holds s a b && le_z y b) (copied code ink d.dx d.dy m) m k z m' k' z' → Drawn (row s y') (copied code ink d.dx d.dy m') m' k' z' m'' k'' z''
-        → Drawn (λ a b. holds s a b && le_z y' b) (copied code ink d.dx d.dy m) m k z m'' k'' z''
-    up_step s y y' h t e n = copied_more _ _ _ code ink d.dx d.dy m m' m'' k k' k'' z z' z''
-        (λ a b. up_more s y y' a b h t e) (λ a b. up_fresh s y y' a b _ e) (λ a b. up_kept s y y' d.dy a b _ n e)
+    -- one row of a rectangle on
+    pub row_step : (q : Rect) (s e y s' e' : ℤ) → Next q.top q.bottom d.dy s e y s' e'
+        → Drawn (λ a b. done q.top q.bottom s e b && between q.left q.right a) (copied code ink d.dx d.dy m) m k z m' k' z' → Drawn (row q y) (copied code ink d.dx d.dy m') m' k' z' m'' k'' z''
+        → Drawn (λ a b. done q.top q.bottom s' e' b && between q.left q.right a) (copied code ink d.dx d.dy m) m k z m'' k'' z''
+    row_step q s e y s' e' n = copied_more _ _ _ code ink d.dx d.dy m m' m'' k k' k'' z z' z''
+        (λ a b. ap (λ t. t && between q.left q.right a) (n.more b) ∙ spread (done q.top q.bottom s e b) (spans y 1 b) (between q.left q.right a))
+        (λ a b t. ap (λ t. t && between q.left q.right a) (n.fresh b (and_parts (between q.left q.right a) (spans y 1 b) t).1))
+        (λ a b t. ap (λ t. t && between q.left q.right (a +ℤ d.dx)) (n.kept b (and_parts (between q.left q.right a) (spans y 1 b) t).1))

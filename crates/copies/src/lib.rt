@@ -3,5 +3,6 @@
 
 mod copying;
 mod shift;
+mod sweep;
 
 pub use copying::copy;

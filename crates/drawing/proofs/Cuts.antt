@@ -1,8 +1,8 @@
 -- What spans of places share.
-use Rattle.std.proofs.Common.{◌≡◌, ℕ, ◌<◌, Bool, true, false, ◌&&◌, T, ℤ, pos, ◌+ℤ◌, ◌-ℤ◌, nat_abs, ◌≤ℤ◌, refl, ap, ◌∙◌, zero-add, arith, w16, w32, w64, Fits, SFits}
-use lib.Signed.{le_z, lt_z, non_neg}
+use Rattle.std.proofs.Common.{◌≡◌, ℕ, ◌<◌, Bool, true, false, ◌&&◌, ℤ, pos, ◌+ℤ◌, ◌≤ℤ◌, refl, ap, ◌∙◌, zero-add, arith, w32, w64, SFits}
+use lib.Signed.{le_z, lt_z}
 use Rattle.std.specs.Int.{int_max, int_min}
-use Rattle.std.proofs.lemmas.Int.{ints, clamps}
+use Rattle.std.proofs.lemmas.Int.{ints}
 use Rattle.surface.specs.Meaning.{spans}
 use Rattle.drawing.specs.Areas.{between}
 
@@ -48,16 +48,3 @@ within_is r s t h e = omega (arith, ints)
 
 pub clamped_fits : (r s : ℤ) (n : ℕ) → n < 65536 → pos 0 ≤ℤ r → r ≤ℤ s → s ≡ pos n → SFits w32 r
 clamped_fits r s n h l u e = omega (arith, ints)
-
-pub apart_fits : (l r : ℤ) → SFits w32 l → SFits w32 r → pos 0 ≤ℤ l → pos 0 ≤ℤ r → SFits w32 (r -ℤ l)
-apart_fits l r fl fr hl hr = omega (arith, ints)
-
-pub breadth_is : (l r m : ℤ) → pos 0 ≤ℤ l → pos 0 ≤ℤ r → r ≤ℤ pos 65535 → m ≡ int_max (r -ℤ l) (pos 0)
-    → T (non_neg m) × Fits w16 (nat_abs m) × (pos (nat_abs m) ≡ int_max (r -ℤ l) (pos 0))
-breadth_is l r m hl hr h e =
-    let low : pos 0 ≤ℤ m = omega (arith, ints, clamps) in
-    let high : m ≤ℤ pos 65535 = omega (arith, ints, clamps) in
-    (omega (arith, ints), omega (arith, ints), natural m low ∙ e)
-  where
-    natural : (m : ℤ) → pos 0 ≤ℤ m → pos (nat_abs m) ≡ m
-    natural m h = omega (arith, ints)

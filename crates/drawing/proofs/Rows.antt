@@ -71,16 +71,15 @@ module _ {R : Type 0} where
       local_more _ _ _ (λ a b d. combined code (p a b) (q a b) d) m m' m'' k k' k'' z z' z'' (λ a b. rect_more s y y' a b h t e) (rect-fresh s y)
 
   -- a row that takes the words of a raster operation: one cell on
-  pub blend_cell : (code : ℕ) (p q : Shades) (m m' m'' : Meaning) (k k' k'' : Keep) (z z' z'' : R) (l r y x x' : ℤ) (u s d v : ℕ)
+  pub blend_cell : (code : ℕ) (p q : Shades) (m m' m'' : Meaning) (k k' k'' : Keep) (z z' z'' : R) (l r y x x' : ℤ) (d v : ℕ)
       → l ≤ℤ x → lt_z x r ≡ true → x' ≡ x +ℤ pos 1
-      → u ≡ p x y → s ≡ q x y → d ≡ m'.word x y → v ≡ combined code u s d
+      → d ≡ m'.word x y → v ≡ combined code (p x y) (q x y) d
       → Drawn (λ a b. (between l r a && spans y 1 b) && lt_z a x) (blended code p q m) m k z m' k' z'
       → m'' ≡ filled x y 1 v m' → Kept k' (λ a b. strip x y 1 a b && m'.opens a b) k'' → z'' ≡ z'
       → Drawn (λ a b. (between l r a && spans y 1 b) && lt_z a x') (blended code p q m) m k z m'' k'' z''
-  blend_cell code p q m m' m'' k k' k'' z z' z'' l r y x x' u s d v h t e eu es ed ev so_far =
+  blend_cell code p q m m' m'' k k' k'' z z' z'' l r y x x' d v h t e ed ev so_far =
       drawn_cell _ _ _ m m' m'' k k' k'' z z' z'' x y v (λ a b. row_more l r y x x' a b h t e)
-      (ev ∙ ap (λ u. combined code u s d) eu ∙ ap (λ s. combined code (p x y) s d) es
-      ∙ ap (combined code (p x y) (q x y)) (ed ∙ drawn-word _ _ m m' k k' z z' x y so_far (row_here (between l r x && spans y 1 y) x))) so_far
+      (ev ∙ ap (combined code (p x y) (q x y)) (ed ∙ drawn-word _ _ m m' k k' z z' x y so_far (row_here (between l r x && spans y 1 y) x))) so_far
     where
       row_here : (p : Bool) (x : ℤ) → (p && lt_z x x) ≡ false
       row_here p x = grind (arith, ints)

@@ -3,6 +3,7 @@
 
 mod filling;
 mod painting;
+mod part;
 mod shape;
 mod visibility;
 

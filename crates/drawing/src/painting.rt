@@ -3,7 +3,8 @@ ghost use Rattle.pencil.specs.Pencils.{with_clip};
 ghost use Rattle.surface.specs.Rects.{overlap};
 ghost use Rattle.drawing.specs.Tasks.{Performs, blend_task, paint_task};
 
-use crate::filling::blend_rect;
+use crate::filling::Operation;
+use crate::part::Part;
 use crate::shape::Area;
 use crate::visibility::visible;
 use codes::{Refusal, depends_on_source};
@@ -27,8 +28,13 @@ pub fn blend<S: Surface, P: Ink, Q: Ink>(
     if !area.in_range() {
         return Err(Refusal::Range);
     }
-    let shown = visible(area, pencil.clip, S::width(surface), S::height(surface));
-    blend_rect(surface, shown, code, pattern, source);
+    let rect = visible(area, pencil.clip, surface.width(), surface.height());
+    let operation = Operation {
+        code,
+        pattern,
+        source,
+    };
+    operation.blend(surface, &Part { rect });
     Ok(())
 }
 

@@ -13,7 +13,7 @@ impl Point {
     pub fn in_range(self) -> bool
         ensures { result ≡ placed self }
     {
-        are_coordinates(self.x, self.y)
+        is_coordinate(self.x) && is_coordinate(self.y)
     }
 }
 
@@ -31,18 +31,22 @@ impl Area {
     pub fn in_range(self) -> bool
         ensures { result ≡ ranged self }
     {
-        are_coordinates(self.x, self.y) && are_extents(self.w, self.h)
+        let corner = Point {
+            x: self.x,
+            y: self.y,
+        };
+        corner.in_range() && are_extents(self.w, self.h)
     }
 }
 
-fn are_coordinates(x: i32, y: i32) -> bool
-    ensures { result ≡ (coordinate x && coordinate y) }
+fn is_coordinate(z: i32) -> bool
+    ensures { result ≡ coordinate z }
 {
-    -131072 <= x && x < 131072 && -131072 <= y && y < 131072
+    (-131072..131072).contains(&z)
 }
 
 fn are_extents(w: i32, h: i32) -> bool
     ensures { result ≡ (extent w && extent h) }
 {
-    0 <= w && w < 32768 && 0 <= h && h < 32768
+    (0..32768).contains(&w) && (0..32768).contains(&h)
 }

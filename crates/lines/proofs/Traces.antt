@@ -118,15 +118,19 @@ module _ (p q : Point) (rect : Rect) where
         (at_set (traced p q n) c.x c.y a b (and_parts (strip c.x c.y 1 a b) _ h).0 ∙ ap (λ c. traced p q n c.x c.y) e ∙ spot-fresh p q n)
 
     -- a line, one cell on
-    pub trace_step : (n n' aside rest long short : ℕ) (c : Point) → n' ≡ suc n → long ≡ longer p q → short ≡ shorter p q
-        → Aside short long n aside rest → c ≡ place p q n aside
+    pub trace_step : (n n' : ℕ) (c : Point) → n' ≡ suc n → c ≡ spot p q n
         → Drawn (λ a b. traced p q n a b && holds rect a b) (mixing mode ink m) m k z m' k' z'
         → Drawn (λ a b. strip c.x c.y 1 a b && holds rect a b) (mixing mode ink m') m' k' z' m'' k'' z''
         → Drawn (λ a b. traced p q n' a b && holds rect a b) (mixing mode ink m) m k z m'' k'' z''
-    trace_step n n' aside rest long short c en el es w ec d e =
-        let t : aside ≡ (2 * (n * shorter p q) + longer p q) / (2 * longer p q) = simp (← el, ← es) (aside_is aside long rest _ w.sum w.small) in
-        let is : c ≡ spot p q n = ec ∙ ap (place p q n) t in
+    trace_step n n' c en is d e =
         simp en (local_more _ _ _ (λ _ _ d. mixed (mode_number mode) ink d) m m' m'' k k' k'' z z' z'' (split n c is) (fresh n c is) d e)
+
+-- the cell that lies so far aside
+pub spot_is : (p q c : Point) (along n aside rest long short : ℕ) → short ≡ shorter p q → long ≡ longer p q
+    → Aside short long n aside rest → along ≡ n → c ≡ place p q along aside → c ≡ spot p q n
+spot_is p q c along n aside rest long short es el w ea ec =
+    let t : aside ≡ (2 * (n * shorter p q) + longer p q) / (2 * longer p q) = simp (← el, ← es) (aside_is aside long rest _ w.sum w.small) in
+    ec ∙ ap (λ m. place p q m aside) ea ∙ ap (place p q n) t
 
 pub aside_next : (aside rest along short long : ℕ) → Aside short long along aside rest → rest + 2 * short < 2 * long → Aside short long (along + 1) aside (rest + 2 * short)
 aside_next aside rest along short long w h =

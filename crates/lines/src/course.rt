@@ -1,95 +1,78 @@
-ghost use Rattle.std.specs.Prelude.{◌≡◌, ℕ, ◌+◌, ◌*◌, ◌<◌, ◌≤◌, true, ◌&&◌, pos, ◌≤ℤ◌, ◌<ℤ◌};
-ghost use Rattle.drawing.specs.Areas.{between, coordinate, placed};
-ghost use Rattle.drawing.specs.Lines.{longer, place, shorter, toward};
+ghost use Rattle.std.specs.Prelude.{◌≡◌, ◌+◌, ◌-◌, ◌<◌, ◌≤◌, MatchOption};
+ghost use Rattle.std.specs.Iterator.{at_most};
+ghost use Rattle.drawing.specs.Lines.{longer, shorter, spot};
 ghost use Rattle.lines.specs.Courses.{Aside, Meets};
 
+use crate::segment::Segment;
 use drawing::Point;
+use std::ops::Range;
 use surface::Rect;
 
-// n places from a towards b.
-fn step(a: i32, b: i32, n: u32) -> i32
-    requires { (coordinate a ≡ true) × (n < 262144) }
-    ensures { result ≡ toward a b n }
-{
-    if b < a { a - n as i32 } else { a + n as i32 }
+// The cells of a segment at some places along its longer way: how far aside the next one lies, and the rest of the division.
+#[derive(Drop)]
+pub(crate) struct Course {
+    segment: Segment,
+    places: Range<u32>,
+    short: u32,
+    long: u32,
+    aside: u32,
+    rest: u32,
+    ghost sides: { (short ≡ shorter segment.from segment.to) × (long ≡ longer segment.from segment.to) },
+    ghost small: { (short ≤ long) × (long < 262144) },
+    ghost within: { places.end ≤ long },
+    ghost exact: { Aside short long places.start aside rest },
 }
 
-// The cell so many places along the longer way of a line, and so many aside.
-pub(crate) fn locate(from: Point, to: Point, along: u32, aside: u32) -> Point
-    requires { ((placed from && placed to) ≡ true) × ((along < 262144) × (aside < 262144)) }
-    ensures { result ≡ place from to along aside }
-{
-    if from.y.abs_diff(to.y) <= from.x.abs_diff(to.x) {
-        Point {
-            x: step(from.x, to.x, along),
-            y: step(from.y, to.y, aside),
+impl Course {
+    fn new(segment: Segment, places: Range<u32>) -> Course
+        requires some { places.start < places.end }
+        requires within { places.end ≤ longer segment.from segment.to }
+        ensures segment { result.segment ≡ segment }
+        ensures places { result.places ≡ places }
+    {
+        let short = segment.short_side();
+        let long = segment.long_side();
+        let whole = 2 * u64::from(places.start) * u64::from(short) + u64::from(long);
+        let part = 2 * u64::from(long);
+        Course {
+            segment,
+            places,
+            short,
+            long,
+            aside: (whole / part) as u32,
+            rest: (whole % part) as u32,
         }
-    } else {
-        Point {
-            x: step(from.x, to.x, aside),
-            y: step(from.y, to.y, along),
+    }
+
+    // The part of a segment that can lie in a rectangle; None where no part can.
+    pub(crate) fn within(segment: Segment, rect: Rect) -> Option<Course>
+        ensures { MatchOption result (Meets segment.from segment.to rect 0 0)
+            (λ c. (c.segment ≡ segment) × (c.places.start < c.places.end) × Meets segment.from segment.to rect c.places.start c.places.end) }
+    {
+        let places = segment.stretch(rect);
+        if places.is_empty() {
+            return None;
         }
+        Some(Course::new(segment, places))
     }
 }
 
-pub(crate) fn long_side(from: Point, to: Point) -> u32
-    ensures { result ≡ longer from to }
-{
-    from.x.abs_diff(to.x).max(from.y.abs_diff(to.y))
-}
+impl Iterator for Course {
+    type Item = Point;
 
-pub(crate) fn short_side(from: Point, to: Point) -> u32
-    ensures { result ≡ shorter from to }
-{
-    from.x.abs_diff(to.x).min(from.y.abs_diff(to.y))
-}
+    ghost next_gives = { λ s r t. (t.segment ≡ s.segment) × (t.places.end ≡ s.places.end) × MatchOption r (s.places.end ≤ s.places.start)
+        (λ p. (s.places.start < s.places.end) × (t.places.start ≡ s.places.start + 1) × (p ≡ spot s.segment.from s.segment.to s.places.start)) };
 
-// How far aside a line is after so many places along it, and what is left of the division.
-pub(crate) fn aside_at(along: u32, short: u32, long: u32) -> (u32, u32)
-    requires { (along < long) × ((short ≤ long) × (long < 262144)) }
-    ensures { Aside short long along result.0 result.1 }
-{
-    let whole = 2 * u64::from(along) * u64::from(short) + u64::from(long);
-    let part = 2 * u64::from(long);
-    ((whole / part) as u32, (whole % part) as u32)
-}
+    ghost remaining = { λ s. at_most (s.places.end - s.places.start) };
 
-// A count of places, from 0 to `most`.
-fn limit(z: i64, most: u32) -> u32
-    ensures below { (i : ℕ) → z ≤ℤ pos i → result ≤ i }
-    ensures above { (i : ℕ) → i < most → pos i <ℤ z → i < result }
-    ensures most { result ≤ most }
-{
-    z.clamp(0, i64::from(most)) as u32
-}
-
-// Where the way from a towards b, `length` places long, lies between `low` and `high`: the first place, and the one past the last.
-fn reach(a: i32, b: i32, low: i32, high: i32, length: u32) -> (u32, u32)
-    ensures places { (i : ℕ) → i < length → between low high (toward a b i) ≡ true → (result.0 ≤ i) × (i < result.1) }
-    ensures end { result.1 ≤ length }
-{
-    let start = i64::from(a);
-    if b < a {
-        return (
-            limit(start - i64::from(high) + 1, length),
-            limit(start - i64::from(low) + 1, length),
-        );
-    }
-    (
-        limit(i64::from(low) - start, length),
-        limit(i64::from(high) - start, length),
-    )
-}
-
-// The part of a line, along its longer way, that can lie in a rectangle: the first place, and the one past the last.
-pub(crate) fn stretch(from: Point, to: Point, rect: Rect) -> (u32, u32)
-    ensures { Meets from to rect result.0 result.1 }
-{
-    let across = from.x.abs_diff(to.x);
-    let down = from.y.abs_diff(to.y);
-    if down <= across {
-        reach(from.x, to.x, rect.left, rect.right, across)
-    } else {
-        reach(from.y, to.y, rect.top, rect.bottom, down)
+    fn next(&mut self) -> Option<Point> {
+        let along = self.places.next()?;
+        let cell = self.segment.at(along, self.aside);
+        self.rest += 2 * self.short;
+        if self.rest >= 2 * self.long {
+            self.rest -= 2 * self.long;
+            self.aside += 1;
+        }
+        Some(cell)
     }
 }

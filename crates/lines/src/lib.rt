@@ -2,6 +2,7 @@
 #![tactic(auto)]
 
 mod course;
+mod segment;
 mod tracing;
 
 pub use tracing::{line, line_examples};

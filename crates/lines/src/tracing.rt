@@ -1,48 +1,49 @@
-ghost use Rattle.std.specs.Prelude.{◌≡◌, true, ◌&&◌, ℤ};
+ghost use Rattle.std.specs.Prelude.{◌≡◌, ◌&&◌, ℤ};
 ghost use Rattle.surface.specs.Meaning.{inside, strip};
 ghost use Rattle.surface.specs.Rects.{holds};
 ghost use Rattle.surface.specs.Drawing.{Draws};
-ghost use Rattle.drawing.specs.Areas.{placed};
 ghost use Rattle.drawing.specs.Lines.{longer, traced};
 ghost use Rattle.drawing.specs.Tasks.{Performs, line_task, mixing};
 ghost use Rattle.lines.specs.Examples.{Examples};
 
-use crate::course::{aside_at, locate, long_side, short_side, stretch};
+use crate::course::Course;
+use crate::segment::Segment;
 use codes::{LineMode, Refusal};
 use drawing::Point;
 use pencil::{Pen, Pencil};
 use surface::{Rect, Surface};
 
-// Draws one cell with a pen, if it lies in a rectangle.
-fn dot<S: Surface>(surface: &mut S, rect: Rect, at: Point, mode: LineMode, pen: u16)
-    ensures { Draws S.means S.keeps S.rest (λ a b. strip at.x at.y 1 a b && holds rect a b) (mixing mode pen)
-        surface.old surface.new }
-{
-    if rect.has(at.x, at.y) {
-        let v = mode.mix(pen, S::word(surface, at.x, at.y));
-        surface.set(at.x, at.y, v);
-    }
+// What a line draws its cells with: a colour in a mode, inside a rectangle.
+#[derive(Clone, Copy)]
+struct Stroke {
+    rect: Rect,
+    mode: LineMode,
+    colour: u16,
 }
 
-// Draws the cells of a line that lie in a rectangle.
-fn trace<S: Surface>(surface: &mut S, rect: Rect, from: Point, to: Point, mode: LineMode, pen: u16)
-    requires { (placed from && placed to) ≡ true }
-    ensures { Draws S.means S.keeps S.rest (λ a b. traced from to (longer from to) a b && holds rect a b) (mixing mode pen)
-        surface.old surface.new }
-{
-    let (first, last) = stretch(from, to, rect);
-    if last <= first {
-        return;
+impl Stroke {
+    // Draws one cell, if it lies in the rectangle.
+    fn dot<S: Surface>(self, surface: &mut S, at: Point)
+        ensures { Draws S.means S.keeps S.rest (λ a b. strip at.x at.y 1 a b && holds self.rect a b) (mixing self.mode self.colour)
+            surface.old surface.new }
+    {
+        if self.rect.has(at.x, at.y) {
+            let v = self.mode.mix(self.colour, surface.word(at.x, at.y));
+            surface.set(at.x, at.y, v);
+        }
     }
-    let long = long_side(from, to);
-    let short = short_side(from, to);
-    let (mut aside, mut rest) = aside_at(first, short, long);
-    for along in first..last {
-        dot(surface, rect, locate(from, to, along, aside), mode, pen);
-        rest += 2 * short;
-        if rest >= 2 * long {
-            rest -= 2 * long;
-            aside += 1;
+
+    // Draws the cells of a segment that lie in the rectangle.
+    fn trace<S: Surface>(self, surface: &mut S, segment: Segment)
+        ensures { Draws S.means S.keeps S.rest
+            (λ a b. traced segment.from segment.to (longer segment.from segment.to) a b && holds self.rect a b)
+            (mixing self.mode self.colour) surface.old surface.new }
+    {
+        let Some(course) = Course::within(segment, self.rect) else {
+            return;
+        };
+        for at in course {
+            self.dot(surface, at);
         }
     }
 }
@@ -59,12 +60,6 @@ fn shown(clip: Rect, width: u16, height: u16) -> Rect
     })
 }
 
-fn in_range(from: Point, to: Point) -> bool
-    ensures { result ≡ (placed from && placed to) }
-{
-    from.in_range() && to.in_range()
-}
-
 // Draws a line inside a pencil's clip, from its first cell up to its last, which it leaves out.
 pub fn line<S: Surface>(
     surface: &mut S,
@@ -74,17 +69,16 @@ pub fn line<S: Surface>(
 ) -> Result<(), Refusal>
     ensures { Performs S.means S.keeps S.rest (line_task pencil.now from to) result surface.old surface.new }
 {
-    if !in_range(from, to) {
-        return Err(Refusal::Range);
+    let segment = Segment::new(from, to)?;
+    if let Pen::Solid { colour } = pencil.pen {
+        let stroke = Stroke {
+            rect: shown(pencil.clip, surface.width(), surface.height()),
+            mode: pencil.mode,
+            colour,
+        };
+        stroke.trace(surface, segment);
     }
-    match pencil.pen {
-        Pen::Null => Ok(()),
-        Pen::Solid { colour } => {
-            let rect = shown(pencil.clip, S::width(surface), S::height(surface));
-            trace(surface, rect, from, to, pencil.mode, colour);
-            Ok(())
-        }
-    }
+    Ok(())
 }
 
 // Some lines, cell by cell.

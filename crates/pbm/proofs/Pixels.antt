@@ -2,7 +2,7 @@
 use Rattle.std.proofs.Common.{◌≡◌, ℕ, zero, suc, ◌+◌, ◌-◌, ◌*◌, ◌/◌, ◌%◌, ◌^◌, ◌<◌, Bool, true, false, cond, ltb, List, [], ◌∷◌, ◌++◌, map, length, get_or, drop, set, pos, append_assoc, add-one, arith, pow_mono}
 use Rattle.std.specs.List.{range_with_len}
 use Rattle.std.proofs.lemmas.List.FromFn.{length-map-range_with_len, map-range_with_len_more}
-use Rattle.std.proofs.lemmas.List.{drop_more, set_at}
+use Rattle.std.proofs.lemmas.List.{append-nil, drop_all, drop_more, set_at}
 use Rattle.surface.specs.Meaning.{Meaning}
 use Rattle.pbm.specs.Bitmap.{pixel, binary, octet, row}
 
@@ -35,6 +35,11 @@ byte_more f old now i h e =
     let a = append_assoc (map f (range_with_len 0 i)) (f i ∷ []) (drop (i + 1) old) in
     cc
 
-pub row-all : (m : Meaning) (y i n : ℕ) (old now : List ℕ) → n ≡ (m.width + 7) / 8 → i ≡ n → now ≡ map (octet m y) (range_with_len 0 i) ++ drop i old → now ≡ row m y ++ drop n old
+-- a row whose bytes are all written
+pub row-all : (m : Meaning) (y i n : ℕ) (front now : List ℕ) → n ≡ (m.width + 7) / 8 → length front ≡ n → i ≡ n
+    → now ≡ map (octet m y) (range_with_len 0 i) ++ drop i front → now ≡ row m y
 unfolding row
-row-all m y i n old now e f h = cc
+row-all m y i n front now e l f h =
+    let d = drop_all i front (omega arith) in
+    let a = append-nil (map (octet m y) (range_with_len 0 i)) in
+    cc

@@ -1,41 +1,23 @@
-ghost use Rattle.std.specs.Prelude.{◌≡◌, ◌+◌, ◌<◌, ◌≤◌, true, ◌++◌, length, take, drop};
+ghost use Rattle.std.specs.Prelude.{◌≡◌, length};
 ghost use Rattle.pbm.specs.Bitmap.{header, celled, answer, Wrote};
 
-use crate::numeral::spell;
+use arrayvec::ArrayString;
 use codes::Refusal;
+use itoa::Buffer;
 use surface::Surface;
 
-// Writes bytes from a place on, and gives the place behind them.
-fn append(out: &mut [u8], place: usize, bytes: &[u8]) -> usize
-    requires { place + length bytes.now ≤ length out.old }
-    ensures end { result ≡ place + length bytes.now }
-    ensures text { out.new ≡ take place out.old ++ (bytes.now ++ drop (place + length bytes.now) out.old) }
+// The header of a picture of a size.
+fn header(width: u16, height: u16) -> ArrayString<15>
+    ensures { result.bytes ≡ header width height }
 {
-    let end = place + bytes.len();
-    out[place..end].copy_from_slice(bytes);
-    end
-}
-
-// Writes the header of a picture of a size.
-fn write_size(width: u16, height: u16, out: &mut [u8]) -> Result<usize, Refusal>
-    requires wide { 0 < width }
-    requires high { 0 < height }
-    ensures answer { result ≡ answer true (length (header width height)) (length out.old) }
-    ensures buffer { Wrote (header width height) out.old out.new result }
-{
-    let columns = spell(width);
-    let rows = spell(height);
-    let columns = &columns.digits[columns.first..];
-    let rows = &rows.digits[rows.first..];
-    if out.len() < 3 + columns.len() + 1 + rows.len() + 1 {
-        return Err(Refusal::Buffer);
-    }
-    let end = append(out, 0, b"P4\n");
-    let end = append(out, end, columns);
-    let end = append(out, end, b" ");
-    let end = append(out, end, rows);
-    let end = append(out, end, b"\n");
-    Ok(end)
+    let mut digits = Buffer::new();
+    let mut text = ArrayString::new();
+    text.push_str("P4\n");
+    text.push_str(digits.format(width));
+    text.push(' ');
+    text.push_str(digits.format(height));
+    text.push('\n');
+    text
 }
 
 // Writes the header of a raw PBM file to the front of a buffer, and gives the number of its bytes.
@@ -49,5 +31,11 @@ pub fn write_header<S: Surface>(surface: &S, out: &mut [u8]) -> Result<usize, Re
     if width == 0 || height == 0 {
         return Err(Refusal::Row);
     }
-    write_size(width, height, out)
+    let text = header(width, height);
+    let count = text.len();
+    if out.len() < count {
+        return Err(Refusal::Buffer);
+    }
+    out[..count].copy_from_slice(text.as_str().as_bytes());
+    Ok(count)
 }

@@ -2,7 +2,6 @@
 #![tactic(auto)]
 
 mod header;
-mod numeral;
 mod row;
 
 pub use header::write_header;

@@ -10,7 +10,7 @@ fn pixel<S: Surface>(surface: &S, x: usize, y: u32) -> u8
     requires high { y < 2 ^ 16 }
     ensures { result ≡ pixel (S.means surface.now) y x }
 {
-    if x < surface.width() as usize {
+    if x < usize::from(surface.width()) {
         1 - (surface.word(x as i32, y as i32) % 2) as u8
     } else {
         0
@@ -36,15 +36,16 @@ pub fn write_row<S: Surface>(surface: &S, y: u32, out: &mut [u8]) -> Result<usiz
     ensures answer { result ≡ answer (celled (S.means surface.now) && nat_lt y (S.means surface.now).height) (((S.means surface.now).width + 7) / 8) (length out.old) }
     ensures buffer { Wrote (row (S.means surface.now) y) out.old out.new result }
 {
-    if y >= surface.height() as u32 {
+    if y >= u32::from(surface.height()) {
         return Err(Refusal::Row);
     }
-    let count = (surface.width() as usize + 7) / 8;
+    let count = (usize::from(surface.width()) + 7) / 8;
     if out.len() < count {
         return Err(Refusal::Buffer);
     }
-    for i in 0..count {
-        out[i] = octet(surface, i, y);
+    let front = &mut out[..count];
+    for (i, byte) in front.iter_mut().enumerate() {
+        *byte = octet(surface, i, y);
     }
     Ok(count)
 }
