@@ -19,7 +19,8 @@ impl Size {
     pub fn new(width: u32, height: u32) -> Option<Size>
         ensures { MatchOption result (sized width height ≡ false) (λ s. (sized width height ≡ true) × (s.width ≡ width) × (s.height ≡ height)) }
     {
-        if width < 1 || width > MAX_SIDE || height < 1 || height > MAX_SIDE {
+        let sides = 1..=MAX_SIDE;
+        if !sides.contains(&width) || !sides.contains(&height) {
             return None;
         }
         Some(Size {

@@ -18,6 +18,7 @@ returns g c =
     let so : room ≡ true = fits_so (sized w h) (leb (g.L.Layout.needed w h) (length m)) _ fits in
     let o = raster_onto shows spare w h p.size.width p.size.height q.size.width q.size.height m p.memory.now q.memory.now p.memory.ghost_name q.memory.ghost_name
     refl refl refl refl (cond_so room p.size.width w so c.new-surface.ensures.width) (cond_so room p.size.height h so c.new-surface.ensures.height) c.new-surface.ensures.same c.play_on.ensures in
-    let e : Played (shows w h) (spare w h) (fitting w h (g.L.Layout.needed w h) (length m)) c.args.file.now m c.play_on.result q.memory.now
-    = onto_played (shows w h) (spare w h) _ _ c.args.file.now m q.memory.now c.play_on.result c.in_ok-checked.checked fits c.in_ok-checked.ensures o in
+    let asked = fitting w h (g.L.Layout.needed w h) (length m) in
+    let e : Played (shows w h) (spare w h) asked c.args.file.now m c.play_on.result q.memory.now
+    = onto_played (shows w h) (spare w h) asked _ c.args.file.now m q.memory.now c.play_on.result c.in_ok-checked.checked fits c.in_ok-checked.ensures o in
     search rules
