@@ -4,10 +4,10 @@ use base.Fml.{GName}
 use Rattle.codes.specs.declared.refusal.Refusal.{Refusal}
 use Rattle.codes.specs.declared.refusal.Refusal.TheVariants.{Size, Memory}
 use Rattle.surface.specs.Meaning.{Meaning}
-use Rattle.surface.specs.Rects.{nothing}
+use Rattle.surface.specs.Rects.{Keep}
 use Rattle.metafile.specs.Header.{Accepted}
 use Rattle.metafile.specs.declared.checked.Checked.{Checked}
-use Rattle.raster.specs.Layout.{Untouched}
+use Rattle.raster.specs.Layout.{Untouched, untouched}
 use Rattle.player.specs.Playing.{Plays}
 use Rattle.player.specs.Runs.{begun}
 use Rattle.capi.specs.Playing.{report_of, Reported, Onto, Played}
@@ -27,32 +27,26 @@ pub onto_played : (shows : List ℕ → Meaning) (spare : List ℕ → ℕ → �
     → Ok u ≡ fit → Accepted file c → Onto shows spare c.bytes.now c.first c.objects m r m' → Played shows spare fit file m r m'
 onto_played shows spare fit u file m m' r c e a o = subst (λ f. Played shows spare f file m r m') e (inr (c, a, o))
 
-module _ {S : Type 0} (shows : ℕ → ℕ → List ℕ → Meaning) (spare : ℕ → ℕ → List ℕ → ℕ → ℕ) (wide high : S → ℕ) (bytes : S → List ℕ) (lender : S → GName) where
-  abbrev rest_of : S → Untouched
-  rest_of s = record { width = wide s; height = high s; bytes = length (bytes s); lender = lender s; spare = spare (wide s) (high s) (bytes s) }
-
-  -- the same of any raster
-  pub raster_onto : (w h : ℕ) (p q : S) (m file : List ℕ) (place slots : ℕ) (r : Report) → wide p ≡ w → high p ≡ h → bytes p ≡ m
-      → Reported (λ s. shows (wide s) (high s) (bytes s)) (λ _. nothing) rest_of file place slots p r q → Onto (shows w h) (spare w h) file place slots m r (bytes q)
-  raster_onto w h p q m file place slots r ew eh em d =
-      let out = d.listened.out in
-      let rest = out.still in
-      let qw : wide q ≡ w = ap (λ u. u.width) rest ∙ ew in
-      let qh : high q ≡ h = ap (λ u. u.height) rest ∙ eh in
-      let from : shows (wide p) (high p) (bytes p) ≡ shows w h m = λ i. shows (ew i) (eh i) (em i) in
-      let to : shows (wide q) (high q) (bytes q) ≡ shows w h (bytes q) = λ i. shows (qw i) (qh i) (bytes q) in
-      record {
-        end = d.end;
-        steps = d.listened.steps;
-        cells = out.cells;
-        plays = subst (λ s. Plays (λ w. w) file (begun place slots) (shows w h m) d.listened.steps d.end s out.cells) to
-            (subst (λ s. Plays (λ w. w) file (begun place slots) s d.listened.steps d.end (shows (wide q) (high q) (bytes q)) out.cells) from out.plays);
-        stopped = out.stopped;
-        report = d.report ∙ ap (λ a. report_of a d.heard.first d.end.counts) d.listened.last ∙ ap (λ f. report_of out.stopped.last.answer f d.end.counts) d.listened.first;
-        bytes = ap (λ u. u.bytes) rest ∙ ap length em;
-        spares = λ i. sym (λ j. spare (qw j) (qh j) (bytes q) i) ∙ ap (λ u. u.spare i) rest ∙ (λ j. spare (ew j) (eh j) (em j) i);
-      }
-
-  -- and its lender stays
-  pub raster_lender : (p q : S) (file : List ℕ) (place slots : ℕ) (r : Report) → Reported (λ s. shows (wide s) (high s) (bytes s)) (λ _. nothing) rest_of file place slots p r q → lender q ≡ lender p
-  raster_lender p q file place slots r d = ap (λ u. u.lender) d.listened.out.still
+-- What was played on a raster, by its memory: p and q are the raster before and after, and the names that end so are theirs.
+pub raster_onto : {S : Type 0} {means : S → Meaning} {keeps : S → Keep} {rest : S → Untouched} (shows : ℕ → ℕ → List ℕ → Meaning) (spare : ℕ → ℕ → List ℕ → ℕ → ℕ)
+    (w h wp hp wq hq : ℕ) (m mp mq : List ℕ) (lp lq : GName) {p q : S} {file : List ℕ} {place slots : ℕ} {r : Report}
+    → means p ≡ shows wp hp mp → means q ≡ shows wq hq mq → rest p ≡ untouched spare wp hp mp lp → rest q ≡ untouched spare wq hq mq lq
+    → wp ≡ w → hp ≡ h → mp ≡ m → Reported means keeps rest file place slots p r q → Onto (shows w h) (spare w h) file place slots m r mq
+raster_onto {means = means} shows spare w h wp hp wq hq m mp mq lp lq {q = q} {file = file} {place = place} {slots = slots} sp sq rp rq ew eh em d =
+    let out = d.listened.out in
+    let still : untouched spare wq hq mq lq ≡ untouched spare wp hp mp lp = sym rq ∙ out.still ∙ rp in
+    let qw : wq ≡ w = ap (λ u. u.width) still ∙ ew in
+    let qh : hq ≡ h = ap (λ u. u.height) still ∙ eh in
+    let from = sp ∙ (λ i. shows (ew i) (eh i) (em i)) in
+    let to = sq ∙ (λ i. shows (qw i) (qh i) mq) in
+    record {
+      end = d.end;
+      steps = d.listened.steps;
+      cells = out.cells;
+      plays = subst (λ s. Plays (λ w. w) file (begun place slots) (shows w h m) d.listened.steps d.end s out.cells) to
+          (subst (λ s. Plays (λ w. w) file (begun place slots) s d.listened.steps d.end (means q) out.cells) from out.plays);
+      stopped = out.stopped;
+      report = d.report ∙ ap (λ a. report_of a d.heard.first d.end.counts) d.listened.last ∙ ap (λ f. report_of out.stopped.last.answer f d.end.counts) d.listened.first;
+      bytes = ap (λ u. u.bytes) still ∙ ap length em;
+      spares = λ i. sym (λ j. spare (qw j) (qh j) mq i) ∙ ap (λ u. u.spare i) still ∙ (λ j. spare (ew j) (eh j) (em j) i);
+    }

@@ -1,4 +1,3 @@
 pub mod Reports
 pub mod Listening
 pub mod Playing
-pub mod Spares

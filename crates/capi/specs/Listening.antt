@@ -1,5 +1,6 @@
 -- What is heard of a run that is played until it stops.
 use Rattle.std.specs.Prelude.{◌≡◌, ℕ, List, [], ◌∷◌, Some, None, Ok, Err, Option, Result}
+use Rattle.std.specs.Option.{option_or}
 use Rattle.surface.specs.Meaning.{Meaning}
 use Rattle.surface.specs.Rects.{Keep}
 use Rattle.playback.specs.declared.answer.Answer.{Answer}
@@ -17,15 +18,10 @@ record_fault (Ok a) = None
 record_fault (Err (fault.File f)) = None
 record_fault (Err (fault.Record f)) = Some f
 
--- the earlier of two
-abbrev pub earlier : Option RecordFault → Option RecordFault → Option RecordFault
-earlier (Some f) g = Some f
-earlier None g = g
-
 -- the first record refused among some steps
 abbrev pub first_refused : List Step → Option RecordFault
 first_refused [] = None
-first_refused (s ∷ ss) = earlier (record_fault s.answer) (first_refused ss)
+first_refused (s ∷ ss) = option_or (record_fault s.answer) (first_refused ss)
 
 -- a run was played until it stopped: its last answer, and the first record refused
 pub record Listened {S R : Type 0} (means : S → Meaning) (keeps : S → Keep) (rest : S → R) (file : List ℕ) (t : Progress) (s : S) (h : Heard) (t' : Progress) (s' : S) : Type 0 where

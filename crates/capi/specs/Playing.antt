@@ -11,21 +11,19 @@ use Rattle.player.specs.Playing.{Plays, Stopped}
 use Rattle.player.specs.Runs.{begun}
 use Rattle.player.specs.declared.fault.RecordFault.{RecordFault}
 use Rattle.player.specs.declared.fault.StepFault.{StepFault}
-use Rattle.player.specs.declared.fault.StepFault.TheVariants as fault
 use Rattle.player.specs.declared.progress.Counts.{Counts}
 use Rattle.player.specs.declared.progress.Progress.{Progress}
 use Rattle.player.specs.declared.whole.Step.{Step}
 use Rattle.capi.specs.Listening.{Listened, first_refused}
-use Rattle.capi.specs.Reports.{no_fault, bare, of_file, of_record}
+use Rattle.capi.specs.Reports.{no_fault, bare, of_file, of_record, of_step, unplayed}
 use Rattle.capi.specs.declared.listening.Heard.{Heard}
 use Rattle.capi.specs.declared.report.Fault.{Fault}
 use Rattle.capi.specs.declared.report.Report.{Report}
 
 -- the fault that stopped a run, and none where it ended
-abbrev pub stop_of_lem : Result Answer StepFault → Fault
-stop_of_lem (Ok a) = no_fault
-stop_of_lem (Err (fault.File f)) = of_file f
-stop_of_lem (Err (fault.Record f)) = of_record f
+abbrev pub stop_of : Result Answer StepFault → Fault
+stop_of (Ok a) = no_fault
+stop_of (Err f) = of_step f
 
 abbrev pub first_of : Option RecordFault → Fault
 first_of None = no_fault
@@ -33,11 +31,12 @@ first_of (Some f) = of_record f
 
 -- the report of a run
 abbrev pub report_of : Result Answer StepFault → Option RecordFault → Counts → Report
-report_of last first n = record { stop = stop_of_lem last; first = first_of first; taken = n.taken; refused = n.refused; passed_over = n.passed_over }
+report_of last first n = record { stop = stop_of last; first = first_of first; taken = n.taken; refused = n.refused; passed_over = n.passed_over }
 
--- the report of what was not played
-abbrev pub unplayed : Fault → Report
-unplayed f = record { stop = f; first = no_fault; taken = 0; refused = 0; passed_over = 0 }
+-- the report of a run, or of what kept it from playing
+abbrev pub reported : Result Report Fault → Report
+reported (Ok r) = r
+reported (Err f) = unplayed f
 
 -- a checked file was played on a surface until it stopped
 pub record Reported {S R : Type 0} (means : S → Meaning) (keeps : S → Keep) (rest : S → R) (file : List ℕ) (place slots : ℕ) (s : S) (r : Report) (s' : S) : Type 0 where

@@ -1,12 +1,10 @@
-// The player for C: checking and playing a file on a picture in the caller's memory, and writing the picture out.
+// The player for C: checking a file, and playing it on a picture in the caller's memory, with a report of plain numbers.
 #![tactic(auto)]
 
-mod exports;
 mod listening;
+mod playing;
 mod report;
 
-pub use exports::{
-    dierwolp_check, dierwolp_play_bytes, dierwolp_play_packed, dierwolp_play_planes,
-};
 pub use listening::{Heard, play_listening};
+pub use playing::{check_file, play_file};
 pub use report::{Fault, Report};

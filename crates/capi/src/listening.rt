@@ -1,6 +1,6 @@
 ghost use Rattle.std.specs.Prelude.{◌≡◌};
 ghost use Rattle.player.specs.Playing.{final};
-ghost use Rattle.capi.specs.Listening.{record_fault, earlier, Listened};
+ghost use Rattle.capi.specs.Listening.{record_fault, Listened};
 
 use playback::Answer;
 use player::{RecordFault, Run, StepFault};
@@ -24,14 +24,13 @@ fn is_final(answer: Result<Answer, StepFault>) -> bool
     }
 }
 
-// What was refused first, once an answer came.
-fn noted(first: Option<RecordFault>, answer: Result<Answer, StepFault>) -> Option<RecordFault>
-    ensures { result ≡ earlier first (record_fault answer) }
+// The fault of a record that an answer tells.
+fn fault_of(answer: Result<Answer, StepFault>) -> Option<RecordFault>
+    ensures { result ≡ record_fault answer }
 {
-    match (first, answer) {
-        (Some(fault), _) => Some(fault),
-        (None, Err(StepFault::Record(fault))) => Some(fault),
-        (None, _) => None,
+    match answer {
+        Err(StepFault::Record(fault)) => Some(fault),
+        _ => None,
     }
 }
 
@@ -43,7 +42,7 @@ pub fn play_listening<S: Surface>(run: &mut Run<'_>, surface: &mut S) -> Heard
     let mut first = None;
     'records: loop {
         let answer = run.step(surface);
-        first = noted(first, answer);
+        first = first.or(fault_of(answer));
         if is_final(answer) {
             return Heard {
                 last: answer,

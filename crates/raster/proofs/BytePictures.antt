@@ -1,15 +1,14 @@
 -- From written bytes to a picture of one byte a cell.
-use Rattle.std.proofs.Common.{◌≡◌, ℕ, ◌+◌, ◌-◌, ◌*◌, ◌%◌, ◌<◌, ◌≤◌, Bool, true, false, cond, List, length, get_or, take, drop, replicate, ℤ, pos, nat_abs, sym, refl, subst, ⊎_elim, arith, rules}
-use base.Fml.{GName}
+use Rattle.std.proofs.Common.{◌≡◌, ℕ, ◌+◌, ◌-◌, ◌*◌, ◌%◌, ◌<◌, ◌≤◌, true, false, cond, List, length, get_or, take, drop, replicate, pos, ⊎_elim, arith, rules}
 use borrow.Rule.Slice.PartMut.{put_mid}
 use Rattle.std.proofs.lemmas.List.{get_or-replicate, length-replicate, length-take, length-drop, places}
-use Rattle.std.proofs.lemmas.Bool.{and_parts, leb-true, cases_lt}
+use Rattle.std.proofs.lemmas.Bool.{cases_lt}
 use Rattle.std.proofs.lemmas.Bool.Decides.{nat_tests}
-use Rattle.surface.specs.Meaning.{spans, strip, drawn}
+use Rattle.surface.specs.Meaning.{strip}
 use Rattle.raster.specs.Bits.{among}
-use Rattle.raster.specs.Layout.{has_row, laid, Redrawn, others, row_there}
-use Rattle.raster.specs.Bytewise.{bytes_fit, bytewise, bytewise_rest, BytesDrawn}
-use Rattle.raster.proofs.Layouts.{row_fits, redrawn_none, redrawn_row, redrawn_picture, redrawn_others}
+use Rattle.raster.specs.Layout.{has_row, row_there}
+use Rattle.raster.specs.Bytewise.{bytewise_needs, BytesDrawn}
+use Rattle.raster.proofs.Layouts.{row_end, row_here, redrawn_row}
 
 -- a fill of the bytes a..e of a memory
 module _ (m ys : List ℕ) (a e b : ℕ) (ae : a ≤ e) (em : e ≤ length m) (f : ys ≡ replicate (length (take (e - a) (drop a m))) b) where
@@ -40,45 +39,20 @@ module _ (m ys : List ℕ) (a e b : ℕ) (ae : a ≤ e) (em : e ≤ length m) (f
       (cases_lt i e))
       (cases_lt i a)
 
-cut : (t : Bool) (v x y : ℕ) → y ≡ cond t (v % 256) x → y % 256 ≡ cond t (v % 256) (x % 256)
-cut true v x y e = omega arith
-cut false v x y e = omega arith
+module _ (w h : ℕ) (m : List ℕ) (y : ℕ) (fit : bytewise_needs w h ≤ length m) (low : y < h) where
+  here : has_row h (row_there w (length m)) (pos y) ≡ true
+  here = row_here h w (length m) y fit low
 
-pub fit_memory : (w h n : ℕ) → bytes_fit w h n ≡ true → h * w ≤ n
-fit_memory w h n t = leb-true _ _ (and_parts _ _ t).1
-
-module _ (w h : ℕ) (m : List ℕ) where
-  pub rewritten_none : (x y : ℤ) (n v : ℕ) → has_row h (row_there w (length m)) y ≡ false → BytesDrawn w h m (strip x y n) v m
-  rewritten_none x y n v none =
-      record { long = refl; bytes = redrawn_none w h w 8 (row_there w (length m)) (omega arith) (λ i. get_or m i 0) x y n v none }
-
-  pub rewritten_row : (ys : List ℕ) (x y : ℤ) (n v start from to : ℕ)
-      → has_row h (row_there w (length m)) y ≡ true → start ≡ nat_abs y * w → from ≤ to → to ≤ w → ((k : ℕ) → k < w → spans x n (pos k) ≡ among from to k)
+  pub bytewise_row : (ys : List ℕ) (start from to v : ℕ) → start ≡ y * w → from ≤ to → to ≤ w
       → ys ≡ replicate (length (take (start + to - (start + from)) (drop (start + from) m))) (v % 256)
-      → BytesDrawn w h m (strip x y n) v (put_mid (start + from) (start + to - (start + from)) m ys)
-  rewritten_row ys x y n v start from to row s ft tw same f =
-      let l : nat_abs y * w + w ≤ length m = row_fits h w (length m) y row in
+      → BytesDrawn w h m (strip (pos from) (pos y) (to - from)) v (put_mid (start + from) (start + to - (start + from)) m ys)
+  bytewise_row ys start from to v at ft tw f =
+      let l = row_end h w (length m) y fit low in
       let em : start + to ≤ length m = omega arith in
       let a : start + from ≤ start + to = omega arith in
       let new = put_mid (start + from) (start + to - (start + from)) m ys in
       record {
         long = fill_length m ys (start + from) (start + to) (v % 256) a em f;
-        bytes = redrawn_row w h w 8 (row_there w (length m)) (omega arith) (λ i. get_or m i 0) (λ i. get_or new i 0) x y n v from to row tw same
+        bytes = redrawn_row w h w 8 (row_there w (length m)) y here (omega arith) from to ft tw (λ i. get_or m i 0) (λ i. get_or new i 0) v
             (λ i. let t = fill_at m ys (start + from) (start + to) (v % 256) a em f i in cc);
       }
-
-  pub bytewise-picture : (new : List ℕ) (region : ℤ → ℤ → Bool) (v : ℕ) → BytesDrawn w h m region v new → bytewise w h new ≡ drawn region (λ _ _. v) (bytewise w h m)
-  bytewise-picture new region v d =
-      let r : Redrawn w h w 8 (row_there w (length m)) region v (λ i. get_or m i 0 % 256) (λ i. get_or new i 0 % 256) =
-      record { units = λ i. cut _ v _ _ (d.bytes.units i) } in
-      subst (λ n. laid w h w 8 (row_there w n) (λ i. get_or new i 0 % 256) ≡ drawn region (λ _ _. v) (bytewise w h m)) (sym d.long)
-      (redrawn_picture w h w 8 (row_there w (length m)) (omega arith) (λ i. get_or m i 0 % 256) (λ i. get_or new i 0 % 256) region v r)
-
-  pub bytewise_spared : (new : List ℕ) (region : ℤ → ℤ → Bool) (v : ℕ) (l : GName) → BytesDrawn w h m region v new → bytewise_rest w h new l ≡ bytewise_rest w h m l
-  bytewise_spared new region v l d =
-      let old : ℕ → ℕ = λ i. get_or m i 0 in
-      let now : ℕ → ℕ = λ i. get_or new i 0 in
-      let spared : (i : ℕ) → others w h w (row_there w (length new)) now i ≡ others w h w (row_there w (length m)) old i =
-      λ i. subst (λ n. others w h w (row_there w n) now i ≡ others w h w (row_there w (length m)) old i) (sym d.long)
-      (redrawn_others w h w 8 (row_there w (length m)) (omega arith) old now region v d.bytes i) in
-      λ j. record { width = w; height = h; bytes = d.long j; lender = l; spare = λ i. spared i j }

@@ -8,7 +8,8 @@ use Rattle.raster.specs.Laws.{PackedWhole, BytewiseWhole, PlanarWhole}
 use Rattle.raster.specs.Layout.{has_row, has, laid, others, row_there}
 use Rattle.raster.specs.Packing.{stride, there}
 use Rattle.raster.specs.Planar.{plane, planes_there, four, celled}
-use Rattle.raster.proofs.Layouts.{natural, row_of}
+use Rattle.raster.specs.Laid.{natural}
+use Rattle.raster.proofs.Layouts.{row_of}
 
 -- a unit is a cell's, or one of the others
 laid-whole : (w h p d : ℕ) (at at' : ℤ → Bool) (unit unit' : ℕ → ℕ) → laid w h p d at unit ≡ laid w h p d at' unit'

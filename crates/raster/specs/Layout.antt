@@ -1,6 +1,6 @@
 -- A picture that lies in a memory row after row, in units that are bits or bytes: p units a row, of which the first w are
 -- its cells, so that unit i stands in column i % p of row i / p.
-use Rattle.std.specs.Prelude.{◌≡◌, ℕ, ◌+◌, ◌*◌, ◌/◌, ◌%◌, ◌^◌, Bool, cond, ◌&&◌, ℤ, pos, Ok, Err, Result, nat_le, unsigned_abs}
+use Rattle.std.specs.Prelude.{◌≡◌, ℕ, ◌+◌, ◌*◌, ◌/◌, ◌%◌, ◌^◌, Bool, cond, ◌&&◌, List, length, ℤ, pos, Ok, Err, Result, nat_le, unsigned_abs}
 use Rattle.std.specs.Borrow.{GName}
 use Rattle.codes.specs.declared.refusal.Refusal.{Refusal}
 use Rattle.codes.specs.declared.refusal.Refusal.TheVariants.{Size, Memory}
@@ -39,6 +39,10 @@ pub record Untouched : Type 0 where
   pub lender : GName
   pub spare : ℕ → ℕ
 
+-- what no draw changes, in a layout with these units that are no cell's
+abbrev pub untouched : (ℕ → ℕ → List ℕ → ℕ → ℕ) → ℕ → ℕ → List ℕ → GName → Untouched
+untouched spare w h m lender = record { width = w; height = h; bytes = length m; lender = lender; spare = spare w h m }
+
 -- a memory of so many bytes has all of row y, where each row has r bytes
 abbrev pub row_there : ℕ → ℕ → ℤ → Bool
 row_there r bytes y = nat_le (unsigned_abs y * r + r) bytes
@@ -46,6 +50,10 @@ row_there r bytes y = nat_le (unsigned_abs y * r + r) bytes
 -- a picture may have this size
 abbrev pub sized : ℕ → ℕ → Bool
 sized w h = (nat_le 1 w && nat_le w 4096) && (nat_le 1 h && nat_le h 4096)
+
+-- a picture may have this size, and the bytes that it needs are no more than there are
+abbrev pub fit : ℕ → ℕ → ℕ → ℕ → Bool
+fit w h needed bytes = sized w h && nat_le needed bytes
 
 -- whether a picture may have this size, and then whether the bytes that it needs are no more than there are
 abbrev pub fitting : ℕ → ℕ → ℕ → ℕ → Result (Unit {0}) Refusal

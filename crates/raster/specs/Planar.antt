@@ -3,16 +3,16 @@ use Rattle.std.specs.Prelude.{◌≡◌, ℕ, ◌+◌, ◌*◌, ◌/◌, ◌%◌
 use Rattle.std.specs.Borrow.{GName}
 use Rattle.surface.specs.Meaning.{Meaning}
 use Rattle.raster.specs.Bits.{bit_of, among}
-use Rattle.raster.specs.Layout.{has_row, laid, has, Untouched, sized}
+use Rattle.raster.specs.Layout.{laid, has, Untouched, untouched}
 use Rattle.raster.specs.Packing.{stride}
-use Rattle.raster.specs.declared.planes.Planes.{Planes}
 
 -- the bits of a plane
 abbrev pub plane : ℕ → ℕ → ℕ
 plane w h = h * (8 * stride w)
 
-abbrev pub planes_fit_lem : ℕ → ℕ → ℕ → Bool
-planes_fit_lem w h bytes = sized w h && nat_le (4 * (h * stride w)) bytes
+-- the bytes of a picture
+abbrev pub planar_needs : ℕ → ℕ → ℕ
+planar_needs w h = 4 * (h * stride w)
 
 -- the memory has all four planes
 abbrev pub planes_there : ℕ → ℕ → List ℕ → ℤ → Bool
@@ -41,26 +41,10 @@ pub record PlanesDrawn (w h : ℕ) (old : List ℕ) (region : ℤ → ℤ → Bo
   pub long : length new ≡ length old
   pub bits : (i : ℕ) → bit_of new i ≡ cond (celled w h old region i) (v / 2 ^ (i / plane w h) % 2) (bit_of old i)
 
--- what a draw leaves as it is: the bits that are no cell's are the padding of the planes' rows and all that is behind the planes
+-- the bits that are no cell's: the padding of the planes' rows and all that is behind the planes
+abbrev pub planes_spare : ℕ → ℕ → List ℕ → ℕ → ℕ
+planes_spare w h m i = cond (celled w h m (λ _ _. true) i) 0 (bit_of m i)
+
+-- what a draw leaves as it is
 abbrev pub planar_rest : ℕ → ℕ → List ℕ → GName → Untouched
-planar_rest w h m lender = record {
-  width = w;
-  height = h;
-  bytes = length m;
-  lender = lender;
-  spare = λ i. cond (celled w h m (λ _ _. true) i) 0 (bit_of m i);
-}
-
--- row y is one of the picture's that the memory has
-abbrev pub has_line : Planes → ℤ → Bool
-has_line s y = has_row s.size.height (planes_there s.size.width s.size.height s.memory.now) y
-
-abbrev pub picture : Planes → Meaning
-picture s = planar s.size.width s.size.height s.memory.now
-
-abbrev pub untouched : Planes → Untouched
-untouched s = planar_rest s.size.width s.size.height s.memory.now s.memory.ghost_name
-
--- from one state to another: the cells of a region took a word
-abbrev pub Redraws : Planes → (ℤ → ℤ → Bool) → ℕ → Planes → Type 0
-Redraws s region v t = PlanesDrawn s.size.width s.size.height s.memory.now region v t.memory.now
+planar_rest = untouched planes_spare

@@ -3,13 +3,18 @@
 
 mod bits;
 mod bytes;
+mod cells;
 mod laws;
+mod layout;
 mod packed;
 mod planes;
-mod rows;
+mod raster;
 mod size;
 
-pub use bytes::{Bytes, bytes_fit};
+pub use bytes::{Bytes, OneByte};
 pub use laws::memory_laws;
-pub use packed::{Packed, packed_fits};
-pub use planes::{Planes, planes_fit};
+pub use layout::Layout;
+pub use packed::{OneBit, Packed};
+pub use planes::{FourPlanes, Planes};
+pub use raster::Raster;
+pub use size::Size;

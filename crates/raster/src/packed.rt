@@ -1,162 +1,59 @@
-ghost use Rattle.std.specs.Prelude.{◌≡◌, ℕ, ◌*◌, ◌≤◌, true, false, ◌&&◌, length, ℤ, if◌then◌else◌, MatchOption, unsigned_abs};
-ghost use Rattle.surface.specs.Meaning.{inside, strip, filled};
-ghost use Rattle.surface.specs.Rects.{Kept};
-ghost use Rattle.surface.specs.Rects.Keep.{nothing};
-ghost use Rattle.raster.specs.Soundness.{packed_sound, packed-stays};
-ghost use Rattle.raster.specs.Layout.{fitting, Untouched};
-ghost use Rattle.raster.specs.Packing.{stride, fits, picture, untouched, Redraws, has_line};
+ghost use Rattle.std.specs.Prelude.{◌≡◌};
+ghost use Rattle.raster.specs.PackedLaws.{packed-lawful};
+ghost use Rattle.raster.specs.Packing.{stride, packed, packed_needs, packed_spare, PackedDrawn};
 
-use crate::bits::{bit_at, fill_bits, paint_in_byte};
-use crate::rows::{clip, row_start};
-use crate::size::{Size, is_sized};
-use codes::Refusal;
-use surface::Surface;
+use crate::bits::{bit_at, fill_row, paint_in_byte};
+use crate::layout::Layout;
+use crate::raster::Raster;
+use crate::size::Size;
+use std::ops::Range;
 
-// The bits of a cell.
-const DEPTH: u8 = 1;
+// One bit a cell: each row has whole bytes, the highest bit leftmost.
+pub struct OneBit;
 
-// A surface of depth 1 over a caller's memory: each row has whole bytes, the highest bit leftmost.
-#[derive(Drop)]
-pub struct Packed<'a> {
-    memory: &'a mut [u8],
-    size: Size,
-}
+// A surface of depth 1 over a caller's memory.
+pub type Packed<'a> = Raster<'a, OneBit>;
 
 // The bytes of a row.
 pub(crate) fn pitch(width: u16) -> usize
     ensures { result ≡ stride width }
 {
-    (width as usize + 7) / 8
+    usize::from(width).div_ceil(8)
 }
 
-// Whether a picture may have this size, and a memory has place for it.
-pub fn packed_fits(memory: &[u8], width: u32, height: u32) -> Result<(), Refusal>
-    ensures { result ≡ fitting width height (height * stride width) (length memory.now) }
-{
-    if !is_sized(width, height) {
-        return Err(Refusal::Size);
-    }
-    if memory.len() < height as usize * pitch(width as u16) {
-        return Err(Refusal::Memory);
-    }
-    Ok(())
-}
+impl Layout for OneBit {
+    const DEPTH: u8 = 1;
 
-impl<'a> Packed<'a> {
-    // The surface over a memory, or one without cells where packed_fits refuses.
-    pub fn new(memory: &'a mut [u8], width: u32, height: u32) -> Packed<'a>
-        ensures width { result.size.width ≡ (if fits width height (length memory.old) then width else 0) }
-        ensures height { result.size.height ≡ (if fits width height (length memory.old) then height else 0) }
-        ensures same { result.memory.now ≡ memory.old }
-        ensures lender { result.memory.ghost_name ≡ memory.entry.ghost_name }
-        ensures all_open { (x y : ℤ) → (picture result).opens x y ≡ inside result.size.width result.size.height x y }
-    {
-        if packed_fits(memory, width, height).is_err() {
-            return Packed {
-                memory,
-                size: Size {
-                    width: 0,
-                    height: 0,
-                },
-            };
-        }
-        Packed {
-            memory,
-            size: Size {
-                width: width as u16,
-                height: height as u16,
-            },
-        }
+    ghost DEPTH = { 1 };
+
+    ghost needed = { packed_needs };
+
+    ghost shows = { packed };
+
+    // The padding of the rows, and the memory behind the picture.
+    ghost spare = { packed_spare };
+
+    ghost Redraws = { PackedDrawn };
+
+    ghost lawful = { packed-lawful };
+
+    fn needed(size: Size) -> usize {
+        usize::from(size.height) * pitch(size.width)
     }
 
-    // The bytes of the picture, and what is behind them.
-    pub fn memory(&self) -> &[u8]
-        ensures { result.now ≡ self.now.memory.now }
-    {
-        &self.memory[..]
+    fn word(memory: &[u8], size: Size, x: usize, y: usize) -> u16 {
+        let start = y * pitch(size.width);
+        bit_at(memory, 8 * start + x)
     }
 
-    // Where row y begins in the memory.
-    fn row_start(&self, y: i32) -> Option<usize>
-        ensures { MatchOption result (has_line self.now y ≡ false) (λ start. (has_line self.now y ≡ true) × (start ≡ unsigned_abs y * stride self.now.size.width)) }
-    {
-        row_start(
-            self.memory.len(),
-            self.size.height,
-            pitch(self.size.width),
-            y,
-        )
-    }
-}
-
-impl Surface for Packed<'_> {
-    ghost means = { picture };
-
-    ghost keeps = { λ _. nothing };
-
-    // The padding of the rows and the memory behind the picture stay, and the lender too.
-    ghost Rest = { Untouched };
-
-    ghost rest = { untouched };
-
-    ghost stays = { packed-stays };
-
-    ghost sound = { packed_sound };
-
-    fn width(&self) -> u16 {
-        self.size.width
+    // One byte is written, without the cases of a fill.
+    fn set(memory: &mut [u8], size: Size, x: usize, y: usize, v: u16) {
+        let start = y * pitch(size.width);
+        paint_in_byte(memory, start + x / 8, x % 8..x % 8 + 1, v % 2 == 1);
     }
 
-    fn height(&self) -> u16 {
-        self.size.height
-    }
-
-    fn depth(&self) -> u8 {
-        DEPTH
-    }
-
-    fn word(&self, x: i32, y: i32) -> u16 {
-        let Some(start) = self.row_start(y) else {
-            return 0;
-        };
-        if x < 0 || x >= self.size.width as i32 {
-            return 0;
-        }
-        bit_at(self.memory, 8 * start + x as usize)
-    }
-
-    fn is_open(&self, x: i32, y: i32) -> bool {
-        x >= 0 && x < self.size.width as i32 && self.row_start(y).is_some()
-    }
-
-    fn set(&mut self, x: i32, y: i32, v: u16)
-        ensures picture { picture self.new ≡ filled x y 1 v (picture self.old) }
-        ensures kept { Kept nothing (λ a b. strip x y 1 a b && (picture self.old).opens a b) nothing }
-        ensures rest { untouched self.new ≡ untouched self.old }
-        ensures memory { Redraws self.old (strip x y 1) v self.new }
-        ensures lender { self.new.memory.ghost_name ≡ self.old.memory.ghost_name }
-    {
-        if x < 0 || x >= self.size.width as i32 {
-            return;
-        }
-        if let Some(start) = self.row_start(y) {
-            let x = x as usize;
-            paint_in_byte(self.memory, start + x / 8, x % 8, x % 8 + 1, v % 2 == 1);
-        }
-    }
-
-    fn fill(&mut self, x: i32, y: i32, n: u16, v: u16)
-        ensures picture { picture self.new ≡ filled x y n v (picture self.old) }
-        ensures kept { Kept nothing (λ a b. strip x y n a b && (picture self.old).opens a b) nothing }
-        ensures rest { untouched self.new ≡ untouched self.old }
-        ensures memory { Redraws self.old (strip x y n) v self.new }
-        ensures lender { self.new.memory.ghost_name ≡ self.old.memory.ghost_name }
-    {
-        let (from, to) = clip(x, n, self.size.width);
-        if let Some(start) = self.row_start(y) {
-            let end = start + pitch(self.size.width);
-            let row = &mut self.memory[start..end];
-            fill_bits(row, from, to - from, v % 2 == 1);
-        }
+    fn fill(memory: &mut [u8], size: Size, columns: Range<usize>, y: usize, v: u16) {
+        let row = pitch(size.width);
+        fill_row(memory, y * row, row, columns, v % 2 == 1);
     }
 }

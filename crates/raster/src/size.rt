@@ -1,4 +1,4 @@
-ghost use Rattle.std.specs.Prelude.{◌≡◌, ◌≤◌, ◌==◌};
+ghost use Rattle.std.specs.Prelude.{◌≡◌, ◌≤◌, ◌==◌, true, false, MatchOption};
 ghost use Rattle.raster.specs.Layout.{sized};
 
 // The longest side that a picture may have.
@@ -6,17 +6,26 @@ const MAX_SIDE: u32 = 4096;
 
 // The size of a picture, 0 × 0 where it has no cells.
 #[derive(Clone, Copy)]
-pub(crate) struct Size {
-    pub(crate) width: u16,
-    pub(crate) height: u16,
+pub struct Size {
+    pub width: u16,
+    pub height: u16,
     ghost wide: { width ≤ 4096 },
     ghost high: { height ≤ 4096 },
     ghost both: { (width == 0) ≡ (height == 0) },
 }
 
-// Whether a picture may have this size.
-pub(crate) fn is_sized(width: u32, height: u32) -> bool
-    ensures { result ≡ sized width height }
-{
-    1 <= width && width <= MAX_SIDE && 1 <= height && height <= MAX_SIDE
+impl Size {
+    // A size that a picture with cells may have.
+    pub fn new(width: u32, height: u32) -> Option<Size>
+        ensures { MatchOption result (sized width height ≡ false) (λ s. (sized width height ≡ true) × (s.width ≡ width) × (s.height ≡ height)) }
+    {
+        let sides = 1..=MAX_SIDE;
+        if !sides.contains(&width) || !sides.contains(&height) {
+            return None;
+        }
+        Some(Size {
+            width: width as u16,
+            height: height as u16,
+        })
+    }
 }

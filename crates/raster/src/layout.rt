@@ -1,0 +1,57 @@
+ghost use Rattle.std.specs.Prelude.{◌≡◌, ℕ, ◌-◌, ◌<◌, ◌≤◌, Bool, List, length, ℤ, pos};
+ghost use Rattle.surface.specs.Meaning.{Meaning, strip};
+ghost use Rattle.raster.specs.Lawful.{Lawful};
+
+use crate::size::Size;
+use std::ops::Range;
+
+// How the cells of a picture lie in a memory.
+pub trait Layout {
+    // The bits of a cell.
+    const DEPTH: u8;
+
+    ghost DEPTH: { ℕ };
+
+    // The bytes that a picture of a width and a height needs.
+    ghost needed: { ℕ → ℕ → ℕ };
+
+    // The picture of a size that a memory holds.
+    ghost shows: { ℕ → ℕ → List ℕ → Meaning };
+
+    // The units of a memory that are no cell's, each in its place.
+    ghost spare: { ℕ → ℕ → List ℕ → ℕ → ℕ };
+
+    // What a draw does to a memory: the cells of a region took a word.
+    ghost Redraws: { ℕ → ℕ → List ℕ → (ℤ → ℤ → Bool) → ℕ → List ℕ → Type 0 };
+
+    // A member and not a law after the methods: the members of Surface cite it, and members may not cite a law.
+    ghost lawful: { Lawful DEPTH needed shows spare Redraws };
+
+    fn needed(size: Size) -> usize
+        ensures { result ≡ needed size.width size.height };
+
+    // The word of the cell in column x of row y.
+    fn word(memory: &[u8], size: Size, x: usize, y: usize) -> u16
+        requires memory { needed size.width size.height ≤ length memory.now }
+        requires column { x < size.width }
+        requires row { y < size.height }
+        ensures { result ≡ (shows size.width size.height memory.now).word (pos x) (pos y) };
+
+    // Gives the cell in column x of row y the word v, cut to the depth.
+    fn set(memory: &mut [u8], size: Size, x: usize, y: usize, v: u16)
+        requires memory { needed size.width size.height ≤ length memory.old }
+        requires column { x < size.width }
+        requires row { y < size.height }
+        ensures { Redraws size.width size.height memory.old (strip (pos x) (pos y) 1) v memory.new }
+    {
+        Self::fill(memory, size, x..x + 1, y, v);
+    }
+
+    // The same of each cell in some columns of row y.
+    fn fill(memory: &mut [u8], size: Size, columns: Range<usize>, y: usize, v: u16)
+        requires memory { needed size.width size.height ≤ length memory.old }
+        requires order { columns.start ≤ columns.end }
+        requires columns { columns.end ≤ size.width }
+        requires row { y < size.height }
+        ensures { Redraws size.width size.height memory.old (strip (pos columns.start) (pos y) (columns.end - columns.start)) v memory.new };
+}
