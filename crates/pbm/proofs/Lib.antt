@@ -1,1 +1,2 @@
 mod Pixels
+mod Headers

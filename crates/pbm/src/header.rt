@@ -1,4 +1,4 @@
-ghost use Rattle.std.specs.Prelude.{◌≡◌, length};
+ghost use Rattle.std.specs.Prelude.{◌≡◌, [], ◌∷◌, ◌++◌, length, decimal};
 ghost use Rattle.pbm.specs.Bitmap.{header, celled, answer, Wrote};
 
 use arrayvec::ArrayString;
@@ -6,13 +6,12 @@ use codes::Refusal;
 use itoa::Buffer;
 use surface::Surface;
 
-// The header of a picture of a size.
-fn header(width: u16, height: u16) -> ArrayString<15>
-    ensures { result.bytes ≡ header width height }
+// The width, a space, the height and a line feed.
+fn sides(width: u16, height: u16) -> ArrayString<12>
+    ensures { result.bytes ≡ decimal width ++ ((32 ∷ []) ++ (decimal height ++ (10 ∷ []))) }
 {
     let mut digits = Buffer::new();
     let mut text = ArrayString::new();
-    text.push_str("P4\n");
     text.push_str(digits.format(width));
     text.push(' ');
     text.push_str(digits.format(height));
@@ -22,6 +21,7 @@ fn header(width: u16, height: u16) -> ArrayString<15>
 
 // Writes the header of a raw PBM file to the front of a buffer, and gives the number of its bytes.
 // A picture without cells has none, and a buffer that is too short is refused: it then stays as it was.
+#[tactic(auto, unfolding(crate::specs::Bitmap::header))]
 pub fn write_header<S: Surface>(surface: &S, out: &mut [u8]) -> Result<usize, Refusal>
     ensures answer { result ≡ answer (celled (S.means surface.now)) (length (header (S.means surface.now).width (S.means surface.now).height)) (length out.old) }
     ensures buffer { Wrote (header (S.means surface.now).width (S.means surface.now).height) out.old out.new result }
@@ -31,11 +31,12 @@ pub fn write_header<S: Surface>(surface: &S, out: &mut [u8]) -> Result<usize, Re
     if width == 0 || height == 0 {
         return Err(Refusal::Row);
     }
-    let text = header(width, height);
-    let count = text.len();
+    let sides = sides(width, height);
+    let count = 3 + sides.len();
     if out.len() < count {
         return Err(Refusal::Buffer);
     }
-    out[..count].copy_from_slice(text.as_str().as_bytes());
+    out[..3].copy_from_slice(b"P4\n");
+    out[3..count].copy_from_slice(sides.as_str().as_bytes());
     Ok(count)
 }
