@@ -1,8 +1,8 @@
 use crate::decoding::decode;
 use crate::frame::{Frame, frame_at};
 use crate::header::check;
-use crate::names::record_name;
 use crate::record::Record;
+use crate::record_type::record_name;
 use codes::Refusal;
 use std::test::Fail;
 
