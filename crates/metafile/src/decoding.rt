@@ -1,12 +1,15 @@
-ghost use Rattle.std.specs.Prelude.{◌≡◌, ◌*◌, length, MatchResult, ◌≢◌, EachIndex, slice_index};
-ghost use Rattle.codes.specs.declared.refusal.Refusal.TheVariants.{RecordSize, Colour};
+ghost use Rattle.std.specs.Prelude.{◌≡◌, ◌*◌, pos, ◌≤ℤ◌, length, MatchResult, ◌≢◌, EachIndex, slice_index};
+ghost use Rattle.codes.specs.declared.refusal.Refusal.TheVariants.{RecordSize, Colour, Value};
+ghost use Rattle.std.specs.Int.{w16};
+ghost use Rattle.std.proofs.Common.{to_z};
 ghost use Rattle.metafile.specs.Bytes.{word};
 ghost use Rattle.metafile.specs.Exact.{Exact};
 ghost use Rattle.metafile.specs.Functions.{function_of};
-ghost use Rattle.metafile.specs.Decoding.{PointIs, Shows, Breaks};
+ghost use Rattle.metafile.specs.Decoding.{PointIs, Negative, Shows, Breaks};
 
 use crate::bytes::u16_at;
 use crate::frame::Frame;
+use crate::logical::{LogicalArea, LogicalPoint};
 use crate::record::Record;
 use crate::record_type::{RecordType, UnlistedFunction};
 use codes::{LineMode, Refusal, depends_on_source};
@@ -40,22 +43,10 @@ fn listed(record_type: RecordType, p: &[u8]) -> Result<Record<'_>, Refusal>
             words::<0>(p)?;
             Ok(Record::End)
         }
-        RecordType::SetWindowOrg => {
-            let (x, y) = point(p)?;
-            Ok(Record::SetWindowOrg { x, y })
-        }
-        RecordType::SetViewportOrg => {
-            let (x, y) = point(p)?;
-            Ok(Record::SetViewportOrg { x, y })
-        }
-        RecordType::MoveTo => {
-            let (x, y) = point(p)?;
-            Ok(Record::MoveTo { x, y })
-        }
-        RecordType::LineTo => {
-            let (x, y) = point(p)?;
-            Ok(Record::LineTo { x, y })
-        }
+        RecordType::SetWindowOrg => Ok(Record::SetWindowOrg { origin: point(p)? }),
+        RecordType::SetViewportOrg => Ok(Record::SetViewportOrg { origin: point(p)? }),
+        RecordType::MoveTo => Ok(Record::MoveTo { to: point(p)? }),
+        RecordType::LineTo => Ok(Record::LineTo { to: point(p)? }),
         RecordType::PatBlt => pat_blt(p),
         RecordType::BitBlt => bit_blt(p),
         RecordType::IntersectClipRect => intersect_clip_rect(p),
@@ -63,14 +54,8 @@ fn listed(record_type: RecordType, p: &[u8]) -> Result<Record<'_>, Refusal>
         RecordType::SetBkColor => set_bk_color(p),
         RecordType::CreateBrushIndirect => create_brush_indirect(p),
         RecordType::CreatePenIndirect => create_pen_indirect(p),
-        RecordType::SelectObject => {
-            let [index] = words::<1>(p)?;
-            Ok(Record::SelectObject { index })
-        }
-        RecordType::DeleteObject => {
-            let [index] = words::<1>(p)?;
-            Ok(Record::DeleteObject { index })
-        }
+        RecordType::SelectObject => Ok(Record::SelectObject { index: index(p)? }),
+        RecordType::DeleteObject => Ok(Record::DeleteObject { index: index(p)? }),
     }
 }
 
@@ -88,12 +73,43 @@ fn words<const N: usize>(p: &[u8]) -> Result<[u16; N], Refusal>
     Ok(words)
 }
 
-// A point, y before x.
-fn point(p: &[u8]) -> Result<(i16, i16), Refusal>
-    ensures { MatchResult result (λ q. PointIs p.now q.0 q.1) (λ e. (e ≡ RecordSize) × (length p.now ≢ 4)) }
+fn index(p: &[u8]) -> Result<u16, Refusal>
+    ensures { MatchResult result (λ i. (length p.now ≡ 2) × (i ≡ word p.now 0)) (λ e. (e ≡ RecordSize) × (length p.now ≢ 2)) }
+{
+    let [index] = words::<1>(p)?;
+    Ok(index)
+}
+
+fn point(p: &[u8]) -> Result<LogicalPoint, Refusal>
+    ensures { MatchResult result (PointIs p.now) (λ e. (e ≡ RecordSize) × (length p.now ≢ 4)) }
 {
     let [y, x] = words::<2>(p)?;
-    Ok((x.cast_signed(), y.cast_signed()))
+    Ok(point_of(y, x))
+}
+
+// The point of two words with their signs, y before x.
+fn point_of(y: u16, x: u16) -> LogicalPoint
+    ensures { result ≡ record { x = to_z w16 x; y = to_z w16 y } }
+{
+    LogicalPoint {
+        x: x.cast_signed(),
+        y: y.cast_signed(),
+    }
+}
+
+// The area of four words with their signs, in their order in the file.
+fn area_of(height: u16, width: u16, y: u16, x: u16) -> Result<LogicalArea, Refusal>
+    ensures { MatchResult result (λ a. (a.height ≡ to_z w16 height) × (a.width ≡ to_z w16 width) × (a.at.y ≡ to_z w16 y) × (a.at.x ≡ to_z w16 x) × (pos 0 ≤ℤ a.width) × (pos 0 ≤ℤ a.height)) (λ e. (e ≡ Value) × Negative (to_z w16 width) (to_z w16 height)) }
+{
+    let area = LogicalArea {
+        at: point_of(y, x),
+        width: width.cast_signed(),
+        height: height.cast_signed(),
+    };
+    if area.width < 0 || area.height < 0 {
+        return Err(Refusal::Value);
+    }
+    Ok(area)
 }
 
 // The colour whose number of 32 bits has these halves.
@@ -160,17 +176,9 @@ fn pat_blt(p: &[u8]) -> Result<Record<'_>, Refusal>
     if upper > 0xff || depends_on_source(upper as u8) {
         return Err(Refusal::Operation);
     }
-    let height = height.cast_signed();
-    let width = width.cast_signed();
-    if width < 0 || height < 0 {
-        return Err(Refusal::Value);
-    }
     Ok(Record::PatBlt {
         code: upper as u8,
-        x: x.cast_signed(),
-        y: y.cast_signed(),
-        width,
-        height,
+        area: area_of(height, width, y, x)?,
     })
 }
 
@@ -181,18 +189,9 @@ fn bit_blt(p: &[u8]) -> Result<Record<'_>, Refusal>
     if upper > 0xff {
         return Err(Refusal::Operation);
     }
-    let height = height.cast_signed();
-    let width = width.cast_signed();
-    if width < 0 || height < 0 {
-        return Err(Refusal::Value);
-    }
     Ok(Record::BitBlt {
         code: upper as u8,
-        x: x.cast_signed(),
-        y: y.cast_signed(),
-        width,
-        height,
-        source_x: source_x.cast_signed(),
-        source_y: source_y.cast_signed(),
+        area: area_of(height, width, y, x)?,
+        source: point_of(source_y, source_x),
     })
 }

@@ -7,6 +7,7 @@ mod decoding;
 mod fault;
 mod frame;
 mod header;
+mod logical;
 mod record;
 mod record_type;
 #[cfg(test)]
@@ -17,5 +18,6 @@ pub use decoding::{decode, decoding_is_exact};
 pub use fault::{FileFault, Layer};
 pub use frame::{Frame, frame_at};
 pub use header::check;
+pub use logical::{LogicalArea, LogicalPoint};
 pub use record::Record;
 pub use record_type::{RecordType, UnlistedFunction, record_name};
