@@ -1,6 +1,7 @@
 -- What a function shows of its parameters, computed: a record that is shown, or a rule that is broken, is the one computed.
 use Rattle.std.proofs.Common.{◌≡◌, ℕ, ◌+◌, ◌<◌, ◌≤◌, Bool, true, false, cond, ◌&&◌, ◌||◌, eqb, ltb, leb, ◌⊎◌, List, [], length, ℤ, pos, ◌≤ℤ◌, Ok, Err, Result, sym, refl, ap, ◌∙◌, subst, inl, inr, arith, Bor}
 use lib.Signed.{lt_z}
+use Rattle.std.proofs.lemmas.Bool.{ne_eqb}
 use Rattle.std.proofs.lemmas.Bool.Decides.{nat_tests}
 use Rattle.std.proofs.lemmas.Int.{ints}
 use Rattle.codes.specs.Modes.{mode_number}
@@ -94,9 +95,6 @@ seen f ps q =
 -- what is seen of a number that f is
 at : (f n : ℕ) (ps : List ℕ) (q : Bor (List ℕ)) (r : Seen) → f ≡ n → seen n ps q ≡ r → seen f ps q ≡ r
 at f n ps q r e h = subst (λ (m : ℕ). seen m ps q ≡ r) (sym e) h
-
-ne_eqb : (f k : ℕ) → (f ≡ k → ⊥) → eqb f k ≡ false
-ne_eqb f k h = grind (arith, nat_tests)
 
 right : (n k : ℕ) (r : Seen) → n ≡ k → sized (eqb n k) r ≡ r
 right n k r h = grind (arith, nat_tests)
@@ -226,14 +224,11 @@ seen_value f ps q (inr (inr (inr (inl (e, n, u, s, m))))) =
 seen_value f ps q (inr (inr (inr (inr (e, n, u, m))))) =
     at f 0x0922 ps q _ e (right (length ps) 18 _ n ∙ lawful (word ps 2) false _ u refl ∙ negative (signed ps 12) (signed ps 10) _ m)
 
-alike_causes : (a : Seen) (d e : Refusal) → a ≡ Err d → a ≡ Err e → d ≡ e
-alike_causes a d e p q = cc
-
 alike_records : (a : Seen) (r s : Record) → a ≡ Ok r → a ≡ Ok s → r ≡ s
 alike_records a r s p q = cc
 
 apart : (a : Seen) (r : Record) (e : Refusal) → a ≡ Ok r → a ≡ Err e → ⊥
-apart a r e p q = let z : ◌≡◌ {A = ℕ} 0 1 = cc in omega arith
+apart a r e p q = cc
 
 -- a listed record is what is seen, whatever slice an unlisted one would refer to
 pub shown_record : (f : ℕ) (ps : List ℕ) (r : Record) → Shows f ps r
@@ -297,7 +292,7 @@ pub one_cause : (f : ℕ) (ps : List ℕ) (d e : Refusal) → Breaks f ps d → 
 one_cause f ps d e h k =
     let a : seen f ps slice ≡ Err d = seen_cause f ps d slice h in
     let b : seen f ps slice ≡ Err e = seen_cause f ps e slice k in
-    alike_causes (seen f ps slice) d e a b
+    cc
 
 pub not_both : (f : ℕ) (ps : List ℕ) (r : Record) (e : Refusal) → Shows f ps r → Breaks f ps e → ⊥
 not_both f ps r e h k =
