@@ -64,12 +64,12 @@ allowed-not (Err e) c before h = refused_not e h
 
 only_end : (view : ℕ → ℕ) (r : Record) (c : DeviceContext) → Closes (plays (seen_record view r) c) → r ≡ shown.End
 only_end view shown.End c h = refl
-only_end view (shown.SetWindowOrg x y) c h = absurd (taken_not h)
-only_end view (shown.SetViewportOrg x y) c h = absurd (taken_not h)
-only_end view (shown.MoveTo x y) c h = absurd (taken_not h)
-only_end view (shown.LineTo x y) c h = absurd (drawn-not _ _ _ h)
-only_end view (shown.PatBlt code x y w d) c h = absurd (drawn-not _ _ _ h)
-only_end view (shown.BitBlt code x y w d u v) c h = absurd (drawn-not _ _ _ h)
+only_end view (shown.SetWindowOrg p) c h = absurd (taken_not h)
+only_end view (shown.SetViewportOrg p) c h = absurd (taken_not h)
+only_end view (shown.MoveTo p) c h = absurd (taken_not h)
+only_end view (shown.LineTo p) c h = absurd (drawn-not _ _ _ h)
+only_end view (shown.PatBlt code area) c h = absurd (drawn-not _ _ _ h)
+only_end view (shown.BitBlt code area source) c h = absurd (drawn-not _ _ _ h)
 only_end view (shown.IntersectClipRect a b d e) c h = absurd (taken_not h)
 only_end view (shown.SetRop2 m) c h = absurd (taken_not h)
 only_end view (shown.SetBkColor w) c h = absurd (taken_not h)
