@@ -1,5 +1,5 @@
 -- The object table with its colours seen through a view.
-use Rattle.std.proofs.Common.{◌≡◌, ℕ, Bool, true, false, cond, ltb, not, List, [], ◌∷◌, map, take, length, get_or, Option, Some, None, Ok, Err, sym, refl, ap, ◌∙◌, inl, inr, arith, ◌+◌}
+use Rattle.std.proofs.Common.{◌≡◌, ℕ, Bool, true, false, cond, ltb, not, List, [], ◌∷◌, map, take, length, get_or, Option, Some, None, sym, refl, ap, ◌∙◌, inl, inr, arith, ◌+◌}
 use Rattle.std.proofs.lemmas.List.{get_or-map, get_or_past, length-map, map-set, take-map}
 use Rattle.std.proofs.lemmas.Bool.{cases_lt}
 use Rattle.std.specs.Option.{is_none}
