@@ -65,7 +65,7 @@ module _ (k : ℕ) where
       drawing-seen _ _ (paint_shadow k c.pencil (device_area c.origins a) code (brush_shade c.pencil) (brush_shade (seen_pencil (bit k) c.pencil)) (brush_bit k c.pencil))
   plays-seen (of.BitBlt code a p) c =
       drawing-seen _ _ (copy_shadow k c.pencil (device_area c.origins a) (device c.origins p) code (brush_shade c.pencil) (brush_shade (seen_pencil (bit k) c.pencil)) (brush_bit k c.pencil))
-  plays-seen (of.IntersectClipRect l t r b) c = changed-seen _ _ refl
+  plays-seen (of.IntersectClipRect near far) c = changed-seen _ _ refl
   plays-seen (of.SetRop2 m) c = changed-seen _ _ refl
   plays-seen (of.SetBkColor w) c = changed-seen _ _ refl
   plays-seen (of.CreateBrushIndirect b) c =

@@ -192,7 +192,7 @@ module _ (file : List ℕ) (p : ℕ) (l : Lies file p) where
   record_tells view (shown.PatBlt code a) c (f, n, k, d, h) s = painted_tells (paints _ f) _ _ _ _ _ _ d (in_range c _ 4 a s h) s
   record_tells view (shown.BitBlt code a q) c (f, n, k, e, h) s =
       drawn_tells (copies _ f) _ _ _ _ _ (both _ _ (in_range c _ 10 a s h) (at_cell c q s (pointed _ 4 q e))) s
-  record_tells view (shown.IntersectClipRect a b d e) c h s = (record { position = s.position; window = s.window; viewport = s.viewport }, (l, inr (inr (inr (inr (inl h.0))))))
+  record_tells view (shown.IntersectClipRect near far) c h s = (record { position = s.position; window = s.window; viewport = s.viewport }, (l, inr (inr (inr (inr (inl h.0))))))
   record_tells view (shown.SetRop2 m) c h s = (record { position = s.position; window = s.window; viewport = s.viewport }, (l, modes _ h.0))
   record_tells view (shown.SetBkColor w) c h s = (record { position = s.position; window = s.window; viewport = s.viewport }, (l, grounds _ h.0))
   record_tells view (shown.CreateBrushIndirect b) c h s =

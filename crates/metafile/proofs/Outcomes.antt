@@ -101,7 +101,7 @@ bit_blt ps =
 intersect : (ps : List ℕ) → Outcome 0x0416 ps
 intersect ps =
     ⊎_elim
-    (λ e. inl (shown.IntersectClipRect (signed ps 6) (signed ps 4) (signed ps 2) (signed ps 0), (refl, e, refl, refl, refl, refl)))
+    (λ e. inl (shown.IntersectClipRect (point_at ps 4) (point_at ps 0), (refl, e, (refl, refl), (refl, refl))))
     (λ n. inr (refusal.RecordSize, inr (inr (inr (inr (inl (refl, n)))))))
     (cases_eq (length ps) 8)
 

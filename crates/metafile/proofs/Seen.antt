@@ -83,7 +83,7 @@ seen f ps q =
     (Ok (shown.PatBlt (word ps 2) (area_at ps 4))))))
     (cond (eqb f 0x0922) (sized (eqb (length ps) 18) (coded (word ps 2) false (measured (signed ps 12) (signed ps 10)
     (Ok (shown.BitBlt (word ps 2) (area_at ps 10) (point_at ps 4))))))
-    (cond (eqb f 0x0416) (sized (eqb (length ps) 8) (Ok (shown.IntersectClipRect (signed ps 6) (signed ps 4) (signed ps 2) (signed ps 0))))
+    (cond (eqb f 0x0416) (sized (eqb (length ps) 8) (Ok (shown.IntersectClipRect (point_at ps 4) (point_at ps 0))))
     (cond (eqb f 0x0104) (sized (eqb (length ps) 2 || eqb (length ps) 4) (numbered (word ps 0)))
     (cond (eqb f 0x0201) (sized (eqb (length ps) 4) (coloured (word ps 2) (Ok (shown.SetBkColor (word ps 0)))))
     (cond (eqb f 0x02FC) (sized (eqb (length ps) 8) (coloured (word ps 4) (brushed (word ps 0) (word ps 2) (word ps 6))))
@@ -254,7 +254,11 @@ shown_record f ps (shown.BitBlt c a u) (e, n, (low, k), v, h) = inl (λ q.
     ∙ ap (λ b. Ok (shown.BitBlt (word ps 2) b (point_at ps 4))) (same_area ps 10 a h)
     ∙ ap (λ d. Ok (shown.BitBlt (word ps 2) a d)) (same_point ps 4 u v)
     ∙ ap (λ d. Ok (shown.BitBlt d a u)) (sym k)))
-shown_record f ps (shown.IntersectClipRect l t r b) (e, n, eb, er, et, el) = inl (λ q. at f 0x0416 ps q _ e (right (length ps) 8 _ n ∙ cc))
+shown_record f ps (shown.IntersectClipRect m n) (e, k, t, b) = inl (λ q.
+    at f 0x0416 ps q _ e
+    (right (length ps) 8 _ k
+    ∙ ap (λ z. Ok (shown.IntersectClipRect z (point_at ps 0))) (same_point ps 4 m b)
+    ∙ ap (λ z. Ok (shown.IntersectClipRect m z)) (same_point ps 0 n t)))
 shown_record f ps (shown.SetRop2 m) (e, n, k) = inl (λ q.
     at f 0x0104 ps q _ e
     (right_two (length ps) _ n

@@ -45,9 +45,7 @@ Shows f ps (shown.MoveTo to) = (f ≡ 0x0214) × PointIs ps to
 Shows f ps (shown.LineTo to) = (f ≡ 0x0213) × PointIs ps to
 Shows f ps (shown.PatBlt code area) = (f ≡ 0x061D) × (length ps ≡ 12) × Coded ps 0 code × (sourced code ≡ false) × AreaAt ps 4 area
 Shows f ps (shown.BitBlt code area source) = (f ≡ 0x0922) × (length ps ≡ 18) × Coded ps 0 code × PointAt ps 4 source × AreaAt ps 10 area
-Shows f ps (shown.IntersectClipRect left top right bottom) =
-    (f ≡ 0x0416) × (length ps ≡ 8)
-    × (bottom ≡ signed ps 0) × (right ≡ signed ps 2) × (top ≡ signed ps 4) × (left ≡ signed ps 6)
+Shows f ps (shown.IntersectClipRect near far) = (f ≡ 0x0416) × (length ps ≡ 8) × PointAt ps 0 far × PointAt ps 4 near
 Shows f ps (shown.SetRop2 mode) = (f ≡ 0x0104) × ((length ps ≡ 2) ⊎ (length ps ≡ 4)) × (mode_number mode ≡ word ps 0)
 Shows f ps (shown.SetBkColor colour) = (f ≡ 0x0201) × (length ps ≡ 4) × Coloured ps 0 × (colour ≡ word ps 0)
 Shows f ps (shown.CreateBrushIndirect brush) = (f ≡ 0x02FC) × (length ps ≡ 8) × Coloured ps 2 × BrushIs (word ps 0) (word ps 2) (word ps 6) brush

@@ -123,7 +123,7 @@ fn colour(lower: u16, upper: u16) -> Result<u16, Refusal>
 }
 
 fn set_bk_color(p: &[u8]) -> Result<Record<'_>, Refusal>
-    ensures { MatchResult result (Shows 0x0201 p.now) (Breaks 0x0201 p.now) }
+    ensures { MatchResult result (Shows (function_of RecordType.SetBkColor) p.now) (Breaks (function_of RecordType.SetBkColor) p.now) }
 {
     let [lower, upper] = words::<2>(p)?;
     let colour = colour(lower, upper)?;
@@ -131,7 +131,7 @@ fn set_bk_color(p: &[u8]) -> Result<Record<'_>, Refusal>
 }
 
 fn set_rop2(p: &[u8]) -> Result<Record<'_>, Refusal>
-    ensures { MatchResult result (Shows 0x0104 p.now) (Breaks 0x0104 p.now) }
+    ensures { MatchResult result (Shows (function_of RecordType.SetRop2) p.now) (Breaks (function_of RecordType.SetRop2) p.now) }
 {
     if !matches!(p.len(), 2 | 4) {
         return Err(Refusal::RecordSize);
@@ -142,7 +142,7 @@ fn set_rop2(p: &[u8]) -> Result<Record<'_>, Refusal>
 }
 
 fn create_brush_indirect(p: &[u8]) -> Result<Record<'_>, Refusal>
-    ensures { MatchResult result (Shows 0x02FC p.now) (Breaks 0x02FC p.now) }
+    ensures { MatchResult result (Shows (function_of RecordType.CreateBrushIndirect) p.now) (Breaks (function_of RecordType.CreateBrushIndirect) p.now) }
 {
     let [style, lower, upper, hatch] = words::<4>(p)?;
     let brush = Brush::new(style, colour(lower, upper)?, hatch)?;
@@ -150,7 +150,7 @@ fn create_brush_indirect(p: &[u8]) -> Result<Record<'_>, Refusal>
 }
 
 fn create_pen_indirect(p: &[u8]) -> Result<Record<'_>, Refusal>
-    ensures { MatchResult result (Shows 0x02FA p.now) (Breaks 0x02FA p.now) }
+    ensures { MatchResult result (Shows (function_of RecordType.CreatePenIndirect) p.now) (Breaks (function_of RecordType.CreatePenIndirect) p.now) }
 {
     let [style, width, _, lower, upper] = words::<5>(p)?;
     let pen = Pen::new(style, width.cast_signed(), colour(lower, upper)?)?;
@@ -158,19 +158,17 @@ fn create_pen_indirect(p: &[u8]) -> Result<Record<'_>, Refusal>
 }
 
 fn intersect_clip_rect(p: &[u8]) -> Result<Record<'_>, Refusal>
-    ensures { MatchResult result (Shows 0x0416 p.now) (Breaks 0x0416 p.now) }
+    ensures { MatchResult result (Shows (function_of RecordType.IntersectClipRect) p.now) (Breaks (function_of RecordType.IntersectClipRect) p.now) }
 {
     let [bottom, right, top, left] = words::<4>(p)?;
     Ok(Record::IntersectClipRect {
-        left: left.cast_signed(),
-        top: top.cast_signed(),
-        right: right.cast_signed(),
-        bottom: bottom.cast_signed(),
+        near: point_of(top, left),
+        far: point_of(bottom, right),
     })
 }
 
 fn pat_blt(p: &[u8]) -> Result<Record<'_>, Refusal>
-    ensures { MatchResult result (Shows 0x061D p.now) (Breaks 0x061D p.now) }
+    ensures { MatchResult result (Shows (function_of RecordType.PatBlt) p.now) (Breaks (function_of RecordType.PatBlt) p.now) }
 {
     let [_, upper, height, width, y, x] = words::<6>(p)?;
     if upper > 0xff || depends_on_source(upper as u8) {
@@ -183,7 +181,7 @@ fn pat_blt(p: &[u8]) -> Result<Record<'_>, Refusal>
 }
 
 fn bit_blt(p: &[u8]) -> Result<Record<'_>, Refusal>
-    ensures { MatchResult result (Shows 0x0922 p.now) (Breaks 0x0922 p.now) }
+    ensures { MatchResult result (Shows (function_of RecordType.BitBlt) p.now) (Breaks (function_of RecordType.BitBlt) p.now) }
 {
     let [_, upper, source_y, source_x, _, height, width, y, x] = words::<9>(p)?;
     if upper > 0xff {

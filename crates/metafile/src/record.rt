@@ -28,10 +28,8 @@ pub enum Record<'a> {
         source: LogicalPoint,
     },
     IntersectClipRect {
-        left: i16,
-        top: i16,
-        right: i16,
-        bottom: i16,
+        near: LogicalPoint,
+        far: LogicalPoint,
     },
     SetRop2 {
         mode: LineMode,

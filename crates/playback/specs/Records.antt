@@ -73,8 +73,8 @@ plays (RecordOf.MoveTo to) c = changed (with_position to c)
 plays (RecordOf.LineTo to) c = line_to to c
 plays (RecordOf.PatBlt code area) c = pat_blt code area c
 plays (RecordOf.BitBlt code area source) c = bit_blt code area source c
-plays (RecordOf.IntersectClipRect l t r b) c =
-    changed (with_pencil (with_clip (overlap c.pencil.clip (device_rect c.origins (record { x = l; y = t }) (record { x = r; y = b }))) c.pencil) c)
+plays (RecordOf.IntersectClipRect near far) c =
+    changed (with_pencil (with_clip (overlap c.pencil.clip (device_rect c.origins near far)) c.pencil) c)
 plays (RecordOf.SetRop2 m) c = changed (with_pencil (with_mode m c.pencil) c)
 plays (RecordOf.SetBkColor w) c = changed (with_pencil (with_back w c.pencil) c)
 plays (RecordOf.CreateBrushIndirect b) c = allowed (put_answer c.objects) (with_objects (put_in (object.Brush b) c.objects) c) c

@@ -87,17 +87,7 @@ impl DeviceContext {
             Record::BitBlt { code, area, source } => return self.bit_blt(
                 code, area, source, surface,
             ),
-            Record::IntersectClipRect {
-                left,
-                top,
-                right,
-                bottom,
-            } => {
-                let near = LogicalPoint { x: left, y: top };
-                let far = LogicalPoint {
-                    x: right,
-                    y: bottom,
-                };
+            Record::IntersectClipRect { near, far } => {
                 self.pencil.cut_clip(self.origins.rect(near, far));
             }
             Record::SetRop2 { mode } => self.pencil.mode = mode,
