@@ -83,6 +83,11 @@ plays (RecordOf.SelectObject i) c = allowed (select_answer i c) (select_in i c) 
 plays (RecordOf.DeleteObject i) c = allowed (remove_answer (slot_at c.objects i)) (with_objects (removed (slot_at c.objects i) i c.objects) c) c
 plays (RecordOf.Unlisted f rest) c = record { answer = Ok PassedOver; context = c; mark = untouched }
 
+-- a drawing's answer is its record's
+abbrev pub answered : Result (Unit {0}) Refusal → Result Answer Refusal
+answered (Ok u) = Ok Taken
+answered (Err e) = Err e
+
 -- it happened: the answer, the context and the surface are the outcome's
 pub record Happens {S R : Type 0} (means : S → Meaning) (keeps : S → Keep) (rest : S → R) (o : Outcome) (r : Result Answer Refusal) (c : DeviceContext) (s s' : S) : Type 0 where
   pub answer : r ≡ o.answer

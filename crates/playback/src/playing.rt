@@ -1,6 +1,6 @@
 ghost use Rattle.std.specs.Prelude.{◌≡◌};
 ghost use Rattle.playback.specs.Contexts.{select_in, select_answer};
-ghost use Rattle.playback.specs.Records.{line_to, pat_blt, bit_blt, plays, Happens};
+ghost use Rattle.playback.specs.Records.{line_to, pat_blt, bit_blt, plays, answered, Happens};
 
 use crate::answer::Answer;
 use crate::context::DeviceContext;
@@ -27,45 +27,43 @@ impl DeviceContext {
     }
 
     // A line from the position, which moves to its end.
-    fn line_to<S: Surface>(&mut self, to: LogicalPoint, surface: &mut S) -> Result<Answer, Refusal>
-        ensures { Happens S.means S.keeps S.rest (line_to to self.old) result self.new surface.old surface.new }
+    fn line_to<S: Surface>(&mut self, to: LogicalPoint, surface: &mut S) -> Result<(), Refusal>
+        ensures { Happens S.means S.keeps S.rest (line_to to self.old) (answered result) self.new surface.old surface.new }
     {
         let from = self.origins.device(self.position);
         line(surface, &self.pencil, from, self.origins.device(to))?;
         self.position = to;
-        Ok(Answer::Taken)
+        Ok(())
     }
 
     // A paint with the brush.
     fn pat_blt<S: Surface>(
-        &mut self,
+        &self,
         code: u8,
         area: LogicalArea,
         surface: &mut S,
-    ) -> Result<Answer, Refusal>
-        ensures { Happens S.means S.keeps S.rest (pat_blt code area self.old) result self.new surface.old surface.new }
+    ) -> Result<(), Refusal>
+        ensures { Happens S.means S.keeps S.rest (pat_blt code area self.now) (answered result) self.now surface.old surface.new }
     {
         let area = self.origins.area(area);
         let ink = self.pencil.brush.ink(self.pencil.back);
-        paint(surface, &self.pencil, area, code, &ink)?;
-        Ok(Answer::Taken)
+        paint(surface, &self.pencil, area, code, &ink)
     }
 
     // A copy with the brush.
     fn bit_blt<S: Surface>(
-        &mut self,
+        &self,
         code: u8,
         area: LogicalArea,
         source: LogicalPoint,
         surface: &mut S,
-    ) -> Result<Answer, Refusal>
-        ensures { Happens S.means S.keeps S.rest (bit_blt code area source self.old) result self.new surface.old surface.new }
+    ) -> Result<(), Refusal>
+        ensures { Happens S.means S.keeps S.rest (bit_blt code area source self.now) (answered result) self.now surface.old surface.new }
     {
         let area = self.origins.area(area);
         let source = self.origins.device(source);
         let ink = self.pencil.brush.ink(self.pencil.back);
-        copy(surface, &self.pencil, area, source, code, &ink)?;
-        Ok(Answer::Taken)
+        copy(surface, &self.pencil, area, source, code, &ink)
     }
 
     // Does what a record asks for.
@@ -82,11 +80,9 @@ impl DeviceContext {
             Record::SetWindowOrg { origin } => self.origins.window = origin,
             Record::SetViewportOrg { origin } => self.origins.viewport = origin,
             Record::MoveTo { to } => self.position = to,
-            Record::LineTo { to } => return self.line_to(to, surface),
-            Record::PatBlt { code, area } => return self.pat_blt(code, area, surface),
-            Record::BitBlt { code, area, source } => return self.bit_blt(
-                code, area, source, surface,
-            ),
+            Record::LineTo { to } => self.line_to(to, surface)?,
+            Record::PatBlt { code, area } => self.pat_blt(code, area, surface)?,
+            Record::BitBlt { code, area, source } => self.bit_blt(code, area, source, surface)?,
             Record::IntersectClipRect { near, far } => {
                 self.pencil.cut_clip(self.origins.rect(near, far));
             }
