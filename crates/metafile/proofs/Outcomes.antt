@@ -181,23 +181,8 @@ listed f ps (inr (inr (inr (inr (inr (inr (inr (inr (inl e))))))))) = subst (λ 
 listed f ps (inr (inr (inr (inr (inr (inr (inr (inr (inr (inl e)))))))))) = index f ps shown.SelectObject (inl e) (λ i h. (e, h.0, h.1))
 listed f ps (inr (inr (inr (inr (inr (inr (inr (inr (inr (inr e)))))))))) = index f ps shown.DeleteObject (inr e) (λ i h. (e, h.0, h.1))
 
-either : {A B : Type 0} → A ⊎ (A → ⊥) → B ⊎ (B → ⊥) → (A ⊎ B) ⊎ (A ⊎ B → ⊥)
-either (inl a) b = inl (inl a)
-either (inr n) (inl b) = inl (inr b)
-either (inr n) (inr m) = inr (λ h. ⊎_elim n m h)
-
 cases_listed : (f : ℕ) → Listed f ⊎ (Listed f → ⊥)
-cases_listed f =
-    either (cases_eq f 0x0000)
-    (either (either (cases_eq f 0x020B) (either (cases_eq f 0x020D) (either (cases_eq f 0x0213) (cases_eq f 0x0214))))
-    (either (cases_eq f 0x061D)
-    (either (cases_eq f 0x0922)
-    (either (cases_eq f 0x0416)
-    (either (cases_eq f 0x0104)
-    (either (cases_eq f 0x0201)
-    (either (cases_eq f 0x02FC)
-    (either (cases_eq f 0x02FA)
-    (either (cases_eq f 0x012D) (cases_eq f 0x01F0))))))))))
+cases_listed f = grind arith
 
 pub outcome : (f : ℕ) (ps : List ℕ) → Outcome f ps
 outcome f ps =

@@ -1,7 +1,6 @@
 -- What a function shows of its parameters, computed: a record that is shown, or a rule that is broken, is the one computed.
 use Rattle.std.proofs.Common.{◌≡◌, ℕ, ◌+◌, ◌<◌, ◌≤◌, Bool, true, false, cond, ◌&&◌, ◌||◌, eqb, ltb, leb, ◌⊎◌, List, [], length, ℤ, pos, ◌≤ℤ◌, Ok, Err, Result, sym, refl, ap, ◌∙◌, subst, inl, inr, arith, Bor}
 use lib.Signed.{lt_z}
-use Rattle.std.proofs.lemmas.Bool.{ne_eqb}
 use Rattle.std.proofs.lemmas.Bool.Decides.{nat_tests}
 use Rattle.std.proofs.lemmas.Int.{ints}
 use Rattle.codes.specs.Modes.{mode_number}
@@ -127,8 +126,7 @@ whole : (w h : ℤ) (r : Seen) → pos 0 ≤ℤ w → pos 0 ≤ℤ h → measure
 whole w h r a b = grind (arith, ints)
 
 negative : (w h : ℤ) (r : Seen) → Negative w h → measured w h r ≡ Err refusal.Value
-negative w h r (inl n) = grind (arith, ints)
-negative w h r (inr n) = grind (arith, ints)
+negative w h r n = grind (arith, ints)
 
 mode_seen : (n : ℕ) (m : ℕ) → n ≡ m → 1 ≤ m → m ≤ 16 → numbered n ≡ Ok (shown.SetRop2 (mode_at m))
 mode_seen n m e l h = grind (arith, nat_tests)
@@ -168,24 +166,7 @@ point-seen : (make : LogicalPoint → Record) (ps : List ℕ) (p : LogicalPoint)
 point-seen make ps p (n, e) = right (length ps) 4 _ n ∙ ap (λ q. Ok (make q)) (same_point ps 0 p e)
 
 seen_other : (f : ℕ) (ps : List ℕ) (q : Bor (List ℕ)) → (Listed f → ⊥) → seen f ps q ≡ Ok (shown.Unlisted f q)
-seen_other f ps q n =
-    let ne : (k : ℕ) → (f ≡ k → ⊥) → eqb f k ≡ false = ne_eqb f in
-    simp (
-      ne 0x0000 (λ e. n (inl e)),
-      ne 0x020B (λ e. n (inr (inl (inl e)))),
-      ne 0x020D (λ e. n (inr (inl (inr (inl e))))),
-      ne 0x0213 (λ e. n (inr (inl (inr (inr (inl e)))))),
-      ne 0x0214 (λ e. n (inr (inl (inr (inr (inr e)))))),
-      ne 0x061D (λ e. n (inr (inr (inl e)))),
-      ne 0x0922 (λ e. n (inr (inr (inr (inl e))))),
-      ne 0x0416 (λ e. n (inr (inr (inr (inr (inl e)))))),
-      ne 0x0104 (λ e. n (inr (inr (inr (inr (inr (inl e))))))),
-      ne 0x0201 (λ e. n (inr (inr (inr (inr (inr (inr (inl e)))))))),
-      ne 0x02FC (λ e. n (inr (inr (inr (inr (inr (inr (inr (inl e))))))))),
-      ne 0x02FA (λ e. n (inr (inr (inr (inr (inr (inr (inr (inr (inl e)))))))))),
-      ne 0x012D (λ e. n (inr (inr (inr (inr (inr (inr (inr (inr (inr (inl e))))))))))),
-      ne 0x01F0 (λ e. n (inr (inr (inr (inr (inr (inr (inr (inr (inr (inr e))))))))))),
-    )
+seen_other f ps q n = grind (arith, nat_tests)
 
 seen_size : (f : ℕ) (ps : List ℕ) (q : Bor (List ℕ)) → Missized f (length ps) → seen f ps q ≡ Err refusal.RecordSize
 seen_size f ps q (inl (e, n)) = at f 0x0000 ps q _ e (wrong (length ps) 0 _ n)
@@ -204,14 +185,10 @@ seen_size f ps q (inr (inr (inr (inr (inr (inr (inr (inr (inr (inl e, n)))))))))
 seen_size f ps q (inr (inr (inr (inr (inr (inr (inr (inr (inr (inr e, n)))))))))) = at f 0x01F0 ps q _ e (wrong (length ps) 2 _ n)
 
 seen-colour : (f : ℕ) (ps : List ℕ) (q : Bor (List ℕ)) → BreaksColour f ps → seen f ps q ≡ Err refusal.Colour
-seen-colour f ps q (inl (e, n, u)) = at f 0x0201 ps q _ e (right (length ps) 4 _ n ∙ unhued (word ps 2) _ u)
-seen-colour f ps q (inr (inl (e, n, u))) = at f 0x02FC ps q _ e (right (length ps) 8 _ n ∙ unhued (word ps 4) _ u)
-seen-colour f ps q (inr (inr (e, n, u))) = at f 0x02FA ps q _ e (right (length ps) 10 _ n ∙ unhued (word ps 8) _ u)
+seen-colour f ps q h = grind (arith, nat_tests)
 
 seen_operation : (f : ℕ) (ps : List ℕ) (q : Bor (List ℕ)) → BreaksOperation f ps → seen f ps q ≡ Err refusal.Operation
-seen_operation f ps q (inl (e, n, inl u)) = at f 0x061D ps q _ e (right (length ps) 12 _ n ∙ high (word ps 2) (sourced (word ps 2)) _ u)
-seen_operation f ps q (inl (e, n, inr s)) = at f 0x061D ps q _ e (right (length ps) 12 _ n ∙ depends (word ps 2) (sourced (word ps 2)) _ s)
-seen_operation f ps q (inr (e, n, u)) = at f 0x0922 ps q _ e (right (length ps) 18 _ n ∙ high (word ps 2) false _ u)
+seen_operation f ps q h = grind (arith, nat_tests)
 
 seen_value : (f : ℕ) (ps : List ℕ) (q : Bor (List ℕ)) → BreaksValue f ps → seen f ps q ≡ Err refusal.Value
 seen_value f ps q (inl (e, n, m)) = at f 0x0104 ps q _ e (right_two (length ps) _ n ∙ no_mode (word ps 0) m)
