@@ -1,5 +1,5 @@
-ghost use Rattle.std.specs.Prelude.{◌≡◌, ◌*◌, pos, ◌≤ℤ◌, length, MatchResult, ◌≢◌, EachIndex, slice_index};
-ghost use Rattle.codes.specs.declared.refusal.Refusal.TheVariants.{RecordSize, Colour, Value};
+ghost use Rattle.std.specs.Prelude.{◌≡◌, ◌*◌, ◌<◌, ◌≤◌, pos, ◌≤ℤ◌, length, MatchResult, ◌≢◌, EachIndex, slice_index};
+ghost use Rattle.codes.specs.declared.refusal.Refusal.TheVariants.{RecordSize, Colour, Operation, Value};
 ghost use Rattle.std.specs.Int.{w16};
 ghost use Rattle.std.proofs.Common.{to_z};
 ghost use Rattle.metafile.specs.Bytes.{word};
@@ -122,6 +122,13 @@ fn colour(lower: u16, upper: u16) -> Result<u16, Refusal>
     Ok(lower)
 }
 
+// The code whose number of 32 bits has this upper half.
+fn code(upper: u16) -> Result<u8, Refusal>
+    ensures { MatchResult result (λ c. (upper < 256) × (c ≡ upper)) (λ e. (e ≡ Operation) × (256 ≤ upper)) }
+{
+    u8::try_from(upper).map_err(|_| Refusal::Operation)
+}
+
 fn set_bk_color(p: &[u8]) -> Result<Record<'_>, Refusal>
     ensures { MatchResult result (Shows (function_of RecordType.SetBkColor) p.now) (Breaks (function_of RecordType.SetBkColor) p.now) }
 {
@@ -171,11 +178,12 @@ fn pat_blt(p: &[u8]) -> Result<Record<'_>, Refusal>
     ensures { MatchResult result (Shows (function_of RecordType.PatBlt) p.now) (Breaks (function_of RecordType.PatBlt) p.now) }
 {
     let [_, upper, height, width, y, x] = words::<6>(p)?;
-    if upper > 0xff || depends_on_source(upper as u8) {
+    let code = code(upper)?;
+    if depends_on_source(code) {
         return Err(Refusal::Operation);
     }
     Ok(Record::PatBlt {
-        code: upper as u8,
+        code,
         area: area_of(height, width, y, x)?,
     })
 }
@@ -184,11 +192,8 @@ fn bit_blt(p: &[u8]) -> Result<Record<'_>, Refusal>
     ensures { MatchResult result (Shows (function_of RecordType.BitBlt) p.now) (Breaks (function_of RecordType.BitBlt) p.now) }
 {
     let [_, upper, source_y, source_x, _, height, width, y, x] = words::<9>(p)?;
-    if upper > 0xff {
-        return Err(Refusal::Operation);
-    }
     Ok(Record::BitBlt {
-        code: upper as u8,
+        code: code(upper)?,
         area: area_of(height, width, y, x)?,
         source: point_of(source_y, source_x),
     })
