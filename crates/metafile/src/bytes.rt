@@ -9,10 +9,11 @@ pub(crate) fn u16_at(bytes: &[u8], at: usize) -> u16
     u16::from_le_bytes([bytes[at], bytes[at + 1]])
 }
 
-// The number in the four bytes from `at` on, the low byte first.
-pub(crate) fn u32_at(bytes: &[u8], at: usize) -> u32
+// The size in the four bytes from `at` on, the low byte first.
+// By `as`, since a `usize` has no From<u32>.
+pub(crate) fn size_at(bytes: &[u8], at: usize) -> usize
     requires { at + 4 ≤ length bytes.now }
     ensures { result ≡ long bytes.now at }
 {
-    u32::from_le_bytes([bytes[at], bytes[at + 1], bytes[at + 2], bytes[at + 3]])
+    u32::from_le_bytes([bytes[at], bytes[at + 1], bytes[at + 2], bytes[at + 3]]) as usize
 }

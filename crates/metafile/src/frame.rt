@@ -1,7 +1,7 @@
 ghost use Rattle.std.specs.Prelude.{MatchOption, MatchResult};
 ghost use Rattle.metafile.specs.Frames.{Lies, Framed, Unframed};
 
-use crate::bytes::{u16_at, u32_at};
+use crate::bytes::{size_at, u16_at};
 use crate::fault::FileFault;
 use codes::Refusal;
 
@@ -29,7 +29,7 @@ fn framed(bytes: &[u8], place: usize) -> Option<Frame<'_>>
     if room < 6 {
         return None;
     }
-    let size = u32_at(bytes, place) as usize;
+    let size = size_at(bytes, place);
     if !(3..=room / 2).contains(&size) {
         return None;
     }

@@ -1,7 +1,7 @@
 ghost use Rattle.std.specs.Prelude.{◌≡◌, Decides, MatchResult};
 ghost use Rattle.metafile.specs.Header.{Sized, Headed, Accepted, Refused};
 
-use crate::bytes::{u16_at, u32_at};
+use crate::bytes::{size_at, u16_at};
 use crate::checked::Checked;
 use crate::fault::FileFault;
 use codes::Refusal;
@@ -16,7 +16,7 @@ pub fn check(file: &[u8]) -> Result<Checked<'_>, FileFault>
     if !header_stands(file) {
         return Err(refused(Refusal::Header));
     }
-    let end = 2 * u32_at(file, 6) as usize;
+    let end = 2 * size_at(file, 6);
     Ok(Checked {
         bytes: &file[..end],
         objects: u16_at(file, 10),
@@ -35,7 +35,7 @@ fn header_stands(file: &[u8]) -> bool
     requires { Sized file.now }
     ensures { Decides result (Headed file.now) }
 {
-    let words = u32_at(file, 6) as usize;
+    let words = size_at(file, 6);
     matches!(u16_at(file, 0), 1 | 2)
         && u16_at(file, 2) == 9
         && matches!(u16_at(file, 4), 0x0100 | 0x0300)

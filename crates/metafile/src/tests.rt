@@ -1,4 +1,5 @@
 use crate::decoding::decode;
+use crate::fault::FileFault;
 use crate::frame::{Frame, frame_at};
 use crate::header::check;
 use crate::logical::{LogicalArea, LogicalPoint};
@@ -7,22 +8,19 @@ use crate::record_type::record_name;
 use codes::Refusal;
 use std::test::Fail;
 
-// The number that a file is refused with, or 0.
-fn refusal_of(file: &[u8]) -> u8 {
-    match check(file) {
-        Ok(_) => 0,
-        Err(fault) => fault.number(),
-    }
+// The number that a file is refused with.
+fn refusal_of(file: &[u8]) -> Option<u8> {
+    check(file).err().map(FileFault::number)
 }
 
 #[test]
 fn shortest_file(rt: HostRuntime) {
-    assert_eq!(rt; refusal_of(&[0; 17]), 3);
-    assert_eq!(rt; refusal_of(&[0; 18]), 4);
+    assert_eq!(rt; refusal_of(&[0; 17]), Some(3));
+    assert_eq!(rt; refusal_of(&[0; 18]), Some(4));
     let file = [
         1, 0, 9, 0, 0, 3, 12, 0, 0, 0, 16, 0, 3, 0, 0, 0, 0, 0, 3, 0, 0, 0, 0, 0,
     ];
-    assert_eq!(rt; refusal_of(&file), 0);
+    assert_eq!(rt; refusal_of(&file), None);
     assert!(rt; frame_at(&file, 18).is_ok());
     assert!(rt; frame_at(&file, 19).is_err());
 }
