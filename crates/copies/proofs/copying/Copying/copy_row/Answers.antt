@@ -1,8 +1,9 @@
 use Rattle.std.proofs.Common.{◌&&◌, ap, ◌∙◌, w32, SFits, rules}
+use Rattle.std.proofs.lemmas.Bool.{and_from}
 use Rattle.std.proofs.lemmas.Int.{to_z-of_z}
 use Rattle.surface.specs.Meaning.{spans}
 use Rattle.surface.proofs.Strokes.{drawn-none, drawn_like}
-use Rattle.copies.proofs.Sweeps.{all_done, both, cell_step, next_is, none_done, sweeps, sweeps_on}
+use Rattle.copies.proofs.Sweeps.{all_done, cell_step, next_is, none_done, sweeps, sweeps_on}
 use Rattle.copies.proofs.copying.Copying.copy_row.Goals as goal
 
 pub loop-x-init : goal.loop-x-init
@@ -29,7 +30,7 @@ copy_cell-requires g c =
     let i = c.loop-x.invariant in
     let t = c.in-Some.ensures.steps in
     let n = next_is _ _ c.args.self.now.shift.dx _ _ _ _ _ _ i.way i.sweeping t.1.0 t.1.1 in
-    let y = c.ranges.y in simp to_z-of_z (both _ _ n.here c.requires)
+    let y = c.ranges.y in simp to_z-of_z (and_from _ _ n.here c.requires)
 
 pub loop-x-preserved : goal.loop-x-preserved
 loop-x-preserved g c =

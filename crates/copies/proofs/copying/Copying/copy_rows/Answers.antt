@@ -1,8 +1,9 @@
 use Rattle.std.proofs.Common.{◌&&◌, ap, ◌∙◌, w32, SFits, rules}
+use Rattle.std.proofs.Math.Bool.{and_comm}
 use Rattle.std.proofs.lemmas.Int.{to_z-of_z}
 use Rattle.surface.proofs.Strokes.{drawn-none, drawn_like}
 use Rattle.drawing.specs.Areas.{between}
-use Rattle.copies.proofs.Sweeps.{all_done, row_step, next_is, none_done, sweeps, sweeps_on, swap}
+use Rattle.copies.proofs.Sweeps.{all_done, row_step, next_is, none_done, sweeps, sweeps_on}
 use Rattle.copies.proofs.copying.Copying.copy_rows.Goals as goal
 
 pub loop-y-init : goal.loop-y-init
@@ -42,4 +43,4 @@ returns g c =
     let i = c.loop-y.invariant in
     let t = c.in-None.ensures.steps in
     drawn_like _ _ _ _ _ _ _ _ _ (λ a b. ap (λ p. (p && between q.left q.right a) && (g.S.Surface.means c.args.surface.now).opens a b) (all_done q.top q.bottom _ _ b t.1)
-    ∙ ap (λ p. p && (g.S.Surface.means c.args.surface.now).opens a b) (swap (between q.top q.bottom b) (between q.left q.right a))) i.drawn
+    ∙ ap (λ p. p && (g.S.Surface.means c.args.surface.now).opens a b) (and_comm (between q.top q.bottom b) (between q.left q.right a))) i.drawn
