@@ -21,9 +21,6 @@ pub row_more : (l r y x x' a b : ℤ) → l ≤ℤ x → lt_z x r ≡ true → x
     → ((between l r a && spans y 1 b) && lt_z a x') ≡ (((between l r a && spans y 1 b) && lt_z a x) || strip x y 1 a b)
 row_more l r y x x' a b h t e = grind (arith, ints)
 
-pub row_fresh : (p : Bool) (x y a b : ℤ) → strip x y 1 a b ≡ true → (p && lt_z a x) ≡ false
-row_fresh p x y a b h = grind (arith, ints)
-
 pub row-all : (l r y x a b : ℤ) → lt_z x r ≡ false → (between l r a && spans y 1 b) ≡ true → lt_z a x ≡ true
 row-all l r y x a b t h = grind (arith, ints)
 

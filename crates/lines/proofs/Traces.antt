@@ -124,12 +124,6 @@ spot_is p q c along n aside rest long short es el w ea ec =
     let t : aside ≡ (2 * (n * shorter p q) + longer p q) / (2 * longer p q) = simp (← el, ← es) (aside_is aside long rest _ w.sum w.small) in
     ec ∙ ap (λ m. place p q m aside) ea ∙ ap (place p q n) t
 
-pub aside_next : (aside rest along short long : ℕ) → Aside short long along aside rest → rest + 2 * short < 2 * long → Aside short long (along + 1) aside (rest + 2 * short)
-aside_next aside rest along short long w h =
-    let s = w.sum in
-    let n = w.near in
-    record { sum = omega (arith, add-mul along 1 short); small = h; near = omega arith }
-
 pub aside_carry : (aside rest along short long : ℕ) → short ≤ long → Aside short long along aside rest → 2 * long ≤ rest + 2 * short
     → Aside short long (along + 1) (aside + 1) (rest + 2 * short - 2 * long)
 aside_carry aside rest along short long less w h =
