@@ -11,7 +11,6 @@ loop-x-init g c =
     let q = c.args.self.now.target in
     let l : SFits w32 c.args.self.now.target.left = search rules in
     let r : SFits w32 c.args.self.now.target.right = search rules in
-    let d : SFits w32 c.args.self.now.shift.dx = search rules in
     let y = c.ranges.y in
     let i = simp to_z-of_z at c.into_iter-x-iterator.ensures.into_iter_gives in
     let s = ap (λ i. i.places.start) i in
@@ -19,7 +18,7 @@ loop-x-init g c =
     record {
       can = search rules;
       ends = search rules;
-      way = ap (λ i. i.backwards) i;
+      way = search rules;
       sweeping = sweeps _ _ _ _ _ s e;
       drawn = simp to_z-of_z (drawn-none _ _ _ _ _ (λ a b. ap (λ t. t && spans c.args.y 1 b) (none_done q.left q.right _ _ a s e)));
     }

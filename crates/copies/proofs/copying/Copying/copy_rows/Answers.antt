@@ -11,14 +11,13 @@ loop-y-init g c =
     let q = c.args.self.now.target in
     let l : SFits w32 c.args.self.now.target.top = search rules in
     let r : SFits w32 c.args.self.now.target.bottom = search rules in
-    let d : SFits w32 c.args.self.now.shift.dy = search rules in
     let i = simp to_z-of_z at c.into_iter-y-iterator.ensures.into_iter_gives in
     let s = ap (λ i. i.places.start) i in
     let e = ap (λ i. i.places.end) i in
     record {
       can = search rules;
       ends = search rules;
-      way = ap (λ i. i.backwards) i;
+      way = search rules;
       sweeping = sweeps _ _ _ _ _ s e;
       drawn = drawn-none _ _ _ _ _ (λ a b. ap (λ t. t && between q.left q.right a) (none_done q.top q.bottom _ _ b s e));
     }
