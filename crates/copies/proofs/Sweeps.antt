@@ -1,6 +1,7 @@
 -- Sweeps over places, and copies in their order.
 use Rattle.std.proofs.Common.{◌≡◌, ℕ, Bool, true, false, not, ◌&&◌, ◌||◌, ℤ, pos, ◌+ℤ◌, ◌≤ℤ◌, ◌<ℤ◌, ap, ◌∙◌, refl, arith}
 use lib.Signed.{lt_z}
+use Rattle.std.proofs.Math.Bool.{and-or_distrib_right, and_comm}
 use Rattle.std.proofs.lemmas.Int.{ints}
 use Rattle.std.proofs.lemmas.Bool.{and_parts}
 use Rattle.codes.specs.Operations.{combined}
@@ -78,14 +79,8 @@ sweeps_on l r s e x s' e' true w h t =
     let k = w.back refl in
     record { first = omega (arith, ints); last = omega (arith, ints); forth = λ b. absurd cc; back = λ _. omega (arith, ints) }
 
-pub both : (p q : Bool) → p ≡ true → q ≡ true → (p && q) ≡ true
-both p q f g = grind arith
-
-pub swap : (p q : Bool) → (p && q) ≡ (q && p)
-swap p q = grind arith
-
 spread : (d p q : Bool) → ((d || p) && q) ≡ ((d && q) || (q && p))
-spread d p q = grind arith
+spread d p q = and-or_distrib_right d p q ∙ ap (λ t. (d && q) || t) (and_comm p q)
 
 module _ {R : Type 0} where
   -- a copy and then another, to other cells, from cells that the first left alone

@@ -6,10 +6,10 @@ use Rattle.std.proofs.lemmas.Int.{ints}
 use Rattle.surface.specs.Meaning.{spans}
 use Rattle.drawing.specs.Areas.{between}
 
-le_z_max : (u v a : ℤ) → le_z (int_max u v) a ≡ (le_z u a && le_z v a)
+pub le_z_max : (u v a : ℤ) → le_z (int_max u v) a ≡ (le_z u a && le_z v a)
 le_z_max u v a = grind (arith, ints)
 
-lt_z_min : (u v a : ℤ) → lt_z a (int_min u v) ≡ (lt_z a u && lt_z a v)
+pub lt_z_min : (u v a : ℤ) → lt_z a (int_min u v) ≡ (lt_z a u && lt_z a v)
 lt_z_min u v a = grind (arith, ints)
 
 -- from 0 on it makes no difference whether an end below 0 is lifted to 0

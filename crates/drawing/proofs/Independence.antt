@@ -1,14 +1,10 @@
 -- Raster operations that do not depend on the picture, or on a source.
-use Rattle.std.proofs.Common.{◌≡◌, ℕ, ◌+◌, ◌*◌, Bool, true, false, not, eqb, sym, refl, ap, ◌∙◌, arith}
+use Rattle.std.proofs.Common.{◌≡◌, ℕ, ◌+◌, ◌*◌, false, eqb, sym, refl, ap, ◌∙◌, arith}
 use mathlib.Core.Path.{fun_ext}
-use Rattle.std.proofs.lemmas.Bool.{and_parts, eqb-true}
+use Rattle.std.proofs.lemmas.Bool.{and_parts, eqb-true, not-false}
 use Rattle.codes.specs.Bits.{bit, of_bits}
 use Rattle.codes.specs.Operations.{combined, pictured, sourced}
 use Rattle.codes.proofs.Words.{by_bits}
-
-is_true : (b : Bool) → not b ≡ false → b ≡ true
-is_true true e = refl
-is_true false e = sym e
 
 -- the rows that differ only in the picture's bit
 record Paired (c : ℕ) : Type 0 where
@@ -19,7 +15,7 @@ record Paired (c : ℕ) : Type 0 where
 
 paired : (c : ℕ) → pictured c ≡ false → Paired c
 paired c e =
-    let h = and_parts _ (eqb (bit 6 c) (bit 7 c)) (is_true _ e) in
+    let h = and_parts _ (eqb (bit 6 c) (bit 7 c)) (not-false _ e) in
     let g = and_parts _ (eqb (bit 4 c) (bit 5 c)) h.0 in
     let f = and_parts (eqb (bit 0 c) (bit 1 c)) (eqb (bit 2 c) (bit 3 c)) g.0 in
     record { zeros = eqb-true _ _ f.0; sources = eqb-true _ _ f.1; patterns = eqb-true _ _ g.1; all = eqb-true _ _ h.1 }
@@ -48,7 +44,7 @@ record Doubled (c : ℕ) : Type 0 where
 
 doubled : (c : ℕ) → sourced c ≡ false → Doubled c
 doubled c e =
-    let h = and_parts _ (eqb (bit 5 c) (bit 7 c)) (is_true _ e) in
+    let h = and_parts _ (eqb (bit 5 c) (bit 7 c)) (not-false _ e) in
     let g = and_parts _ (eqb (bit 4 c) (bit 6 c)) h.0 in
     let f = and_parts (eqb (bit 0 c) (bit 2 c)) (eqb (bit 1 c) (bit 3 c)) g.0 in
     record { zeros = eqb-true _ _ f.0; pictures = eqb-true _ _ f.1; patterns = eqb-true _ _ g.1; all = eqb-true _ _ h.1 }

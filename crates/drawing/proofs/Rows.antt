@@ -1,6 +1,7 @@
 -- Sweeps over the rows of a rectangle and the cells of a row.
 use Rattle.std.proofs.Common.{◌≡◌, ℕ, Bool, true, false, ◌&&◌, ◌||◌, ℤ, pos, ◌+ℤ◌, ◌-ℤ◌, ◌≤ℤ◌, sym, refl, ap, ◌∙◌, arith}
 use lib.Signed.{lt_z}
+use Rattle.std.proofs.Math.Bool.{and_comm}
 use Rattle.std.specs.Int.{int_max}
 use Rattle.std.proofs.lemmas.Int.{ints}
 use Rattle.codes.specs.Operations.{combined}
@@ -19,9 +20,6 @@ row-none l r a p = grind (arith, ints)
 pub row_more : (l r y x x' a b : ℤ) → l ≤ℤ x → lt_z x r ≡ true → x' ≡ x +ℤ pos 1
     → ((between l r a && spans y 1 b) && lt_z a x') ≡ (((between l r a && spans y 1 b) && lt_z a x) || strip x y 1 a b)
 row_more l r y x x' a b h t e = grind (arith, ints)
-
-pub row_fresh : (p : Bool) (x y a b : ℤ) → strip x y 1 a b ≡ true → (p && lt_z a x) ≡ false
-row_fresh p x y a b h = grind (arith, ints)
 
 pub row-all : (l r y x a b : ℤ) → lt_z x r ≡ false → (between l r a && spans y 1 b) ≡ true → lt_z a x ≡ true
 row-all l r y x a b t h = grind (arith, ints)
@@ -44,11 +42,8 @@ rect-all s y a b t h = grind (arith, ints)
 columns : (l r a : ℤ) (n : ℕ) → pos n ≡ int_max (r -ℤ l) (pos 0) → spans l n a ≡ between l r a
 columns l r a n e = grind (arith, ints)
 
-swap : (p q : Bool) → (p && q) ≡ (q && p)
-swap p q = grind arith
-
 strip-row : (s : Rect) (y a b : ℤ) (n : ℕ) → pos n ≡ int_max (s.right -ℤ s.left) (pos 0) → row s y a b ≡ strip s.left y n a b
-strip-row s y a b n e = swap (between s.left s.right a) (spans y 1 b) ∙ ap (λ t. spans y 1 b && t) (sym (columns s.left s.right a n e))
+strip-row s y a b n e = and_comm (between s.left s.right a) (spans y 1 b) ∙ ap (λ t. spans y 1 b && t) (sym (columns s.left s.right a n e))
 
 module _ {R : Type 0} where
   -- rows that take one word: one row on

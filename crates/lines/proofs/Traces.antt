@@ -1,9 +1,11 @@
 -- Lines.
 use Rattle.std.proofs.Common.{◌≡◌, ℕ, zero, suc, ◌+◌, ◌-◌, ◌*◌, ◌/◌, ◌%◌, ◌<◌, ◌≤◌, Bool, true, false, cond, ◌&&◌, ◌||◌, leb, ℤ, pos, ◌+ℤ◌, ◌-ℤ◌, nat_abs, ◌≤ℤ◌, ◌<ℤ◌, sym, refl, ap, ◌∙◌, subst, inl, inr, mul_assoc, div-lt_iff_lt-mul, add-mul, zero-add, mul_left_comm, arith, w32, w64, SFits}
+use Rattle.std.proofs.Math.Bool.{and-or_distrib_right}
+use Rattle.drawing.proofs.Cuts.{le_z_max, lt_z_min}
 use lib.Signed.{le_z, lt_z}
 use Rattle.std.specs.Int.{int_max, int_min}
 use Rattle.std.proofs.lemmas.Int.{ints}
-use Rattle.std.proofs.lemmas.Bool.{cond-true, cond-false, le-leb, lt-leb, and_left, and_right, or_from, and_parts, cases_eq}
+use Rattle.std.proofs.lemmas.Bool.{false_from_ne_true, cond-true, cond-false, le-leb, lt-leb, and_left, and_right, or_from, and_parts, cases_eq}
 use Rattle.std.proofs.lemmas.Nat.{div-mul-add, div-add-mod', mod_below, mul-le}
 use Rattle.codes.specs.Modes.{mode_number}
 use Rattle.codes.specs.Operations.{mixed}
@@ -58,12 +60,6 @@ spot-fresh p q n = untraced p q n _ _ (λ j h. apart (leb (rows p q) (columns p 
 aside_is : (aside long rest t : ℕ) → aside * (2 * long) + rest ≡ t → rest < 2 * long → aside ≡ t / (2 * long)
 aside_is aside long rest t e h = sym (div-mul-add aside (2 * long) rest h) ∙ ap (λ n. n / (2 * long)) e
 
-shared : (r s o : Bool) → ((r || s) && o) ≡ ((r && o) || (s && o))
-shared true s true = refl
-shared true true false = refl
-shared true false false = refl
-shared false s o = refl
-
 or_none : (t s o : Bool) → (t && o) ≡ false → (s && o) ≡ false → ((t || s) && o) ≡ false
 or_none true s o e f = e
 or_none false s o e f = f
@@ -71,10 +67,6 @@ or_none false s o e f = f
 or_skip : (t s o : Bool) → (s && o) ≡ false → ((t || s) && o) ≡ (t && o)
 or_skip true s o f = refl
 or_skip false s o f = f
-
-shut : (b : Bool) → (b ≡ true → ⊥) → b ≡ false
-shut true f = absurd (f refl)
-shut false f = refl
 
 module _ (p q : Point) (rect : Rect) where
   -- the first cells of a line, where none lies in a rectangle
@@ -98,19 +90,19 @@ module _ (p q : Point) (rect : Rect) where
 
   -- a line before the first place in a rectangle, and after the last
   pub trace_none : (first last : ℕ) → Meets p q rect first last → first ≤ longer p q → (a b : ℤ) → (traced p q first a b && holds rect a b) ≡ false
-  trace_none first last m h = traced-none first (λ j l. shut _ (λ t. let f = m.places j _ (omega arith) t in omega arith))
+  trace_none first last m h = traced-none first (λ j l. false_from_ne_true _ (λ t. let f = m.places j _ (omega arith) t in omega arith))
 
   pub trace_all : (first last : ℕ) → Meets p q rect first last → (a b : ℤ) → (traced p q last a b && holds rect a b) ≡ (traced p q (longer p q) a b && holds rect a b)
-  trace_all first last m = traced-past last (longer p q) m.end (λ j u v. shut _ (λ t. let f = m.places j _ v t in omega arith))
+  trace_all first last m = traced-past last (longer p q) m.end (λ j u v. false_from_ne_true _ (λ t. let f = m.places j _ v t in omega arith))
 
   pub trace_empty : (first last : ℕ) → Meets p q rect first last → last ≤ first → (a b : ℤ) → (traced p q (longer p q) a b && holds rect a b) ≡ false
-  trace_empty first last m h = traced-none (longer p q) (λ j l. shut _ (λ t. let f = m.places j _ l t in omega arith))
+  trace_empty first last m h = traced-none (longer p q) (λ j l. false_from_ne_true _ (λ t. let f = m.places j _ l t in omega arith))
 
   module _ {R : Type 0} (mode : LineMode) (ink : ℕ) (m m' m'' : Meaning) (k k' k'' : Keep) (z z' z'' : R) where
     split : (n : ℕ) (c : Point) → c ≡ spot p q n → (a b : ℤ)
         → (traced p q (suc n) a b && holds rect a b) ≡ ((traced p q n a b && holds rect a b) || (strip c.x c.y 1 a b && holds rect a b))
     split n c e a b =
-        ap (λ c. (traced p q n a b || strip c.x c.y 1 a b) && holds rect a b) (sym e) ∙ shared (traced p q n a b) (strip c.x c.y 1 a b) (holds rect a b)
+        ap (λ c. (traced p q n a b || strip c.x c.y 1 a b) && holds rect a b) (sym e) ∙ and-or_distrib_right (traced p q n a b) (strip c.x c.y 1 a b) (holds rect a b)
 
     fresh : (n : ℕ) (c : Point) → c ≡ spot p q n → (a b : ℤ) → (strip c.x c.y 1 a b && holds rect a b) ≡ true → (traced p q n a b && holds rect a b) ≡ false
     fresh n c e a b h =
@@ -131,12 +123,6 @@ pub spot_is : (p q c : Point) (along n aside rest long short : ℕ) → short �
 spot_is p q c along n aside rest long short es el w ea ec =
     let t : aside ≡ (2 * (n * shorter p q) + longer p q) / (2 * longer p q) = simp (← el, ← es) (aside_is aside long rest _ w.sum w.small) in
     ec ∙ ap (λ m. place p q m aside) ea ∙ ap (place p q n) t
-
-pub aside_next : (aside rest along short long : ℕ) → Aside short long along aside rest → rest + 2 * short < 2 * long → Aside short long (along + 1) aside (rest + 2 * short)
-aside_next aside rest along short long w h =
-    let s = w.sum in
-    let n = w.near in
-    record { sum = omega (arith, add-mul along 1 short); small = h; near = omega arith }
 
 pub aside_carry : (aside rest along short long : ℕ) → short ≤ long → Aside short long along aside rest → 2 * long ≤ rest + 2 * short
     → Aside short long (along + 1) (aside + 1) (rest + 2 * short - 2 * long)
@@ -191,12 +177,6 @@ along_down p q r i v h t =
     (and_parts (between r.left r.right (toward p.x q.x v)) _ (ap (λ c. holds r c.x c.y) e ∙ t)).1
 
 -- what a clip and a picture share
-le_z_max : (u v a : ℤ) → le_z (int_max u v) a ≡ (le_z u a && le_z v a)
-le_z_max u v a = grind (arith, ints)
-
-lt_z_min : (u v a : ℤ) → lt_z a (int_min u v) ≡ (lt_z a u && lt_z a v)
-lt_z_min u v a = grind (arith, ints)
-
 crossed : (a b c d : Bool) → ((a && b) && (c && d)) ≡ ((a && c) && (b && d))
 crossed a b c d = grind arith
 

@@ -1,8 +1,9 @@
 use Rattle.std.proofs.Common.{◌&&◌, ap, ◌∙◌, w32, SFits, rules}
+use Rattle.std.proofs.lemmas.Bool.{and_from}
 use Rattle.std.proofs.lemmas.Int.{to_z-of_z}
 use Rattle.surface.specs.Meaning.{spans}
 use Rattle.surface.proofs.Strokes.{drawn-none, drawn_like}
-use Rattle.copies.proofs.Sweeps.{all_done, both, cell_step, next_is, none_done, sweeps, sweeps_on}
+use Rattle.copies.proofs.Sweeps.{all_done, cell_step, next_is, none_done, sweeps, sweeps_on}
 use Rattle.copies.proofs.copying.Copying.copy_row.Goals as goal
 
 pub loop-x-init : goal.loop-x-init
@@ -10,7 +11,6 @@ loop-x-init g c =
     let q = c.args.self.now.target in
     let l : SFits w32 c.args.self.now.target.left = search rules in
     let r : SFits w32 c.args.self.now.target.right = search rules in
-    let d : SFits w32 c.args.self.now.shift.dx = search rules in
     let y = c.ranges.y in
     let i = simp to_z-of_z at c.into_iter-x-iterator.ensures.into_iter_gives in
     let s = ap (λ i. i.places.start) i in
@@ -18,7 +18,7 @@ loop-x-init g c =
     record {
       can = search rules;
       ends = search rules;
-      way = ap (λ i. i.backwards) i;
+      way = search rules;
       sweeping = sweeps _ _ _ _ _ s e;
       drawn = simp to_z-of_z (drawn-none _ _ _ _ _ (λ a b. ap (λ t. t && spans c.args.y 1 b) (none_done q.left q.right _ _ a s e)));
     }
@@ -29,7 +29,7 @@ copy_cell-requires g c =
     let i = c.loop-x.invariant in
     let t = c.in-Some.ensures.steps in
     let n = next_is _ _ c.args.self.now.shift.dx _ _ _ _ _ _ i.way i.sweeping t.1.0 t.1.1 in
-    let y = c.ranges.y in simp to_z-of_z (both _ _ n.here c.requires)
+    let y = c.ranges.y in simp to_z-of_z (and_from _ _ n.here c.requires)
 
 pub loop-x-preserved : goal.loop-x-preserved
 loop-x-preserved g c =

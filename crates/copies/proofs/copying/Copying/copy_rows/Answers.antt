@@ -1,8 +1,9 @@
 use Rattle.std.proofs.Common.{◌&&◌, ap, ◌∙◌, w32, SFits, rules}
+use Rattle.std.proofs.Math.Bool.{and_comm}
 use Rattle.std.proofs.lemmas.Int.{to_z-of_z}
 use Rattle.surface.proofs.Strokes.{drawn-none, drawn_like}
 use Rattle.drawing.specs.Areas.{between}
-use Rattle.copies.proofs.Sweeps.{all_done, row_step, next_is, none_done, sweeps, sweeps_on, swap}
+use Rattle.copies.proofs.Sweeps.{all_done, row_step, next_is, none_done, sweeps, sweeps_on}
 use Rattle.copies.proofs.copying.Copying.copy_rows.Goals as goal
 
 pub loop-y-init : goal.loop-y-init
@@ -10,14 +11,13 @@ loop-y-init g c =
     let q = c.args.self.now.target in
     let l : SFits w32 c.args.self.now.target.top = search rules in
     let r : SFits w32 c.args.self.now.target.bottom = search rules in
-    let d : SFits w32 c.args.self.now.shift.dy = search rules in
     let i = simp to_z-of_z at c.into_iter-y-iterator.ensures.into_iter_gives in
     let s = ap (λ i. i.places.start) i in
     let e = ap (λ i. i.places.end) i in
     record {
       can = search rules;
       ends = search rules;
-      way = ap (λ i. i.backwards) i;
+      way = search rules;
       sweeping = sweeps _ _ _ _ _ s e;
       drawn = drawn-none _ _ _ _ _ (λ a b. ap (λ t. t && between q.left q.right a) (none_done q.top q.bottom _ _ b s e));
     }
@@ -42,4 +42,4 @@ returns g c =
     let i = c.loop-y.invariant in
     let t = c.in-None.ensures.steps in
     drawn_like _ _ _ _ _ _ _ _ _ (λ a b. ap (λ p. (p && between q.left q.right a) && (g.S.Surface.means c.args.surface.now).opens a b) (all_done q.top q.bottom _ _ b t.1)
-    ∙ ap (λ p. p && (g.S.Surface.means c.args.surface.now).opens a b) (swap (between q.top q.bottom b) (between q.left q.right a))) i.drawn
+    ∙ ap (λ p. p && (g.S.Surface.means c.args.surface.now).opens a b) (and_comm (between q.top q.bottom b) (between q.left q.right a))) i.drawn
