@@ -1,8 +1,8 @@
 -- Words by their bits.
-use Rattle.std.proofs.Common.{◌≡◌, ℕ, zero, suc, ◌+◌, ◌-◌, ◌*◌, ◌/◌, ◌%◌, ◌^◌, ◌<◌, Bool, true, false, not, ◌&&◌, eqb, sym, refl, ap, ◌∙◌, inl, inr, div-one, arith}
-use native.Mathlib.Nat.{pow-succ', div-div-eq-div-mul}
+use Rattle.std.proofs.Common.{◌≡◌, ℕ, zero, suc, ◌+◌, ◌-◌, ◌*◌, ◌/◌, ◌%◌, ◌^◌, ◌<◌, sym, refl, ap, ◌∙◌, div-one, arith}
+use native.Mathlib.Nat.{pow-succ'}
 use lib.Bits.{bit_and, bit_xor, and_shr, xor_shr, and_mod, xor_mod}
-use Rattle.std.proofs.lemmas.Bool.{and_parts, cases_eq, eqb-true}
+use Rattle.std.proofs.lemmas.Nat.Bits.{bit_at-suc}
 use Rattle.codes.specs.Bits.{bit, of_bits}
 use Rattle.codes.specs.Operations.{combined, mixed, OperationPlanes, ModePlanes}
 
@@ -13,7 +13,7 @@ pub bit-bit_xor : (k a b : ℕ) → bit k (bit_xor a b) ≡ bit_xor (bit k a) (b
 bit-bit_xor k a b = rw xor_shr (xor_mod (a / 2 ^ k) (b / 2 ^ k) 1)
 
 pub bit_suc : (k n : ℕ) → bit (suc k) n ≡ bit k (n / 2)
-bit_suc k n = ap (λ m. n / m % 2) (pow-succ' 2 k) ∙ ap (λ q. q % 2) (sym (div-div-eq-div-mul n 2 (2 ^ k)))
+bit_suc k n = bit_at-suc n k
 
 -- by the cases of a bit
 pub by_bit : (P : ℕ → Type 0) (n : ℕ) → n < 2 → P 0 → P 1 → P n
@@ -75,32 +75,8 @@ unfolding mixed
 mode_planes m p q k h =
     bit-of_bits 16 (λ k. bit (2 * bit k p + bit k q) (m - 1)) (λ k. omega arith) k h ∙ sym (bit-of_bits 16 (λ j. bit (2 * bit j (bit k p) + bit j (bit k q)) (m - 1)) (λ k. omega arith) 0 (omega arith) ∙ simp low_bit)
 
--- a test that passes at each number below n
-abbrev pub every : (ℕ → Bool) → ℕ → Bool
-every f zero = true
-every f (suc n) = f n && every f n
-
-pub every-at : (f : ℕ → Bool) (n : ℕ) → every f n ≡ true → (k : ℕ) → k < n → f k ≡ true
-every-at f zero e k h = absurd (omega arith)
-every-at f (suc n) e k h =
-    let both : (f n ≡ true) × (every f n ≡ true) = and_parts (f n) (every f n) e in
-    elim (cases_eq k n) [ inl e ↦ ap f e ∙ both.0 | inr ne ↦ every-at f n both.1 k (omega arith) ]
-
-abbrev pub alike : Bool → Bool → Bool
-alike true b = b
-alike false b = not b
-
-pub alike_same : (a b : Bool) → alike a b ≡ true → a ≡ b
-alike_same true true e = refl
-alike_same true false e = sym e
-alike_same false true e = e
-alike_same false false e = refl
-
 pub chosen : (w o z : ℕ) → w < 2 → o < 2 → z < 2 → bit_xor z (bit_and w (bit_xor o z)) ≡ w * o + (1 - w) * z
 chosen w o z a b c = by_bits (λ w o z. bit_xor z (bit_and w (bit_xor o z)) ≡ w * o + (1 - w) * z) w o z a b c refl refl refl refl refl refl refl refl
-
-pub ones : (k : ℕ) → k < 16 → bit k 65535 ≡ 1
-ones k h = eqb-true _ _ (every-at (λ k. eqb (bit k 65535) 1) 16 refl k h)
 
 -- operation 0xF0 gives the pen's word
 pub pen_only : (p s d : ℕ) → p < 2 ^ 16 → combined 0xF0 p s d ≡ p

@@ -57,6 +57,7 @@ impl TryFrom<u16> for LineMode {
 }
 
 impl LineMode {
+    // Named, and no From: u8::from would not say which number it is.
     pub fn number(self) -> u8
         ensures { result ≡ mode_number self }
     {

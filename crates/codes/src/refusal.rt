@@ -38,7 +38,7 @@ pub enum Refusal {
 }
 
 impl Refusal {
-    // The number in the table of refusals.
+    // The number in the table of refusals. Named, and no From: u8::from would not say which number it is.
     pub fn number(self) -> u8
         ensures { result ≡ numbered self }
     {

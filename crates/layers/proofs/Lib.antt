@@ -4,3 +4,4 @@ pub mod Mirrors
 pub mod Meters
 pub mod Rowwise
 pub mod Piles
+pub mod Finds

@@ -1,17 +1,14 @@
 -- What a mirror makes of reads and fills.
-use Rattle.std.proofs.Common.{◌≡◌, ℕ, ◌%◌, ◌^◌, false, cond, ◌&&◌, T, ℤ, pos, ◌-ℤ◌, ◌≤ℤ◌, ◌<ℤ◌, sym, ap, ◌∙◌, subst, arith}
+use Rattle.std.proofs.Common.{◌≡◌, ℕ, ◌%◌, ◌^◌, false, cond, ◌&&◌, T, ℤ, pos, ◌-ℤ◌, sym, ap, ◌∙◌, subst, arith}
 use lib.Signed.{le_z, lt_z}
 use borrow.Author.Differences.{ints}
 use Rattle.surface.specs.Meaning.{Meaning, Sound, spans, strip, inside, filled}
 use Rattle.layers.specs.Layers.{across, mirrored}
 use Rattle.layers.specs.Sounds.{across-inside}
 use Rattle.layers.proofs.Cells.{cellwise, open_inside}
-use Rattle.surface.specs.Facts.{same, never, and_out, and_in, spans_out, spans_in}
+use Rattle.surface.specs.Facts.{same, and_out, and_in, spans_out, spans_in}
 
--- a column outside the size
-pub outside : (w : ℕ) (x : ℤ) → (pos 0 ≤ℤ x → x <ℤ pos w → ⊥) → spans (pos 0) w x ≡ false
-outside w x f = never (spans (pos 0) w x) (λ t. let p = spans_out (pos 0) w x t in f p.0 (omega (arith, ints)))
-
+-- beside the size a mirror shows nothing
 outside-inside : (w h : ℕ) (x y : ℤ) → spans (pos 0) w x ≡ false → inside w h (across w x) y ≡ false
 outside-inside w h x y e = across-inside w h x y ∙ ap (λ t. t && spans (pos 0) h y) e
 

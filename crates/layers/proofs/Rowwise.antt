@@ -1,5 +1,5 @@
 -- The open cells of a row, cell by cell.
-use Rattle.std.proofs.Common.{◌≡◌, ℕ, Bool, true, false, ◌&&◌, T, ℤ, pos, ◌+ℤ◌, ◌-ℤ◌, ◌≤ℤ◌, ◌<ℤ◌, sym, refl, subst, arith}
+use Rattle.std.proofs.Common.{◌≡◌, ℕ, Bool, true, ◌&&◌, T, ℤ, pos, ◌+ℤ◌, ◌-ℤ◌, ◌≤ℤ◌, ◌<ℤ◌, sym, refl, subst, arith}
 use lib.Signed.{le_z, lt_z}
 use borrow.Author.Differences.{ints}
 use Rattle.std.proofs.lemmas.Int.{by_lt_z}
@@ -9,16 +9,6 @@ use Rattle.layers.specs.Bounds.{Ends}
 use Rattle.layers.specs.Rows.{row, Shut, First, Last}
 use Rattle.layers.proofs.Cells.{on_out, on_in, in_in, open_inside}
 use Rattle.surface.specs.Facts.{and_out, and_in, T_true, spans_out, spans_in}
-
--- one more at the end
-pub shut_up : (cells : ℤ → Bool) (from x x' : ℤ) → x' ≡ (x +ℤ pos 1) → Shut cells from x → cells x ≡ false → Shut cells from x'
-shut_up cells from x x' e s h z p q =
-    by_lt_z z x (λ lt. s z p lt) (λ le. let same : x ≡ z = omega (arith, ints) in subst (λ t. cells t ≡ false) same h)
-
--- one more at the start
-pub shut_down : (cells : ℤ → Bool) (x x' to : ℤ) → x ≡ (x' +ℤ pos 1) → Shut cells x to → cells x' ≡ false → Shut cells x' to
-shut_down cells x x' to e s h z p q =
-    by_lt_z x' z (λ lt. s z (omega (arith, ints)) q) (λ le. let same : x' ≡ z = omega (arith, ints) in subst (λ t. cells t ≡ false) same h)
 
 -- the open cells of a strip, where its part inside the size is the k cells from a
 module _ (m : Meaning) (sound : Sound m) (x y : ℤ) (n : ℕ) (a : ℤ) (k : ℕ) (part : (z : ℤ) → spans a k z ≡ (spans x n z && (le_z (pos 0) z && lt_z z (pos m.width)))) (from to : ℤ) (low : from ≡ a) (high : to ≡ (a +ℤ pos k)) where

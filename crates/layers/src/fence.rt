@@ -50,6 +50,7 @@ impl<S: Surface> Surface for Fence<S> {
 
     ghost keeps = { λ _. nothing };
 
+    // Size and depth forward by hand, as in Rust: a trait for it would be longer than the three lines.
     fn width(&self) -> u16 {
         self.below.width()
     }

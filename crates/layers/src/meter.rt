@@ -50,24 +50,14 @@ impl<S: Surface> Meter<S> {
 fn first_open<S: Surface>(below: &S, y: i32, from: i32, to: i32) -> Option<i32>
     ensures { MatchOption result (Shut (row y (S.means below.now)) from to) (First (row y (S.means below.now)) from to) }
 {
-    for x in from..to {
-        if below.is_open(x, y) {
-            return Some(x);
-        }
-    }
-    None
+    (from..to).find(|x| below.is_open(*x, y))
 }
 
 // The last open cell of a row in from..to.
 fn last_open<S: Surface>(below: &S, y: i32, from: i32, to: i32) -> Option<i32>
     ensures { MatchOption result (Shut (row y (S.means below.now)) from to) (Last (row y (S.means below.now)) from to) }
 {
-    for x in (from..to).rev() {
-        if below.is_open(x, y) {
-            return Some(x);
-        }
-    }
-    None
+    (from..to).rev().find(|x| below.is_open(*x, y))
 }
 
 // The smallest rectangle that holds the open cells of a strip.
@@ -122,6 +112,7 @@ impl<S: Surface> Surface for Meter<S> {
 
     ghost keeps = { λ s. bounds s.kept };
 
+    // Size and depth forward by hand, as in Rust: a trait for it would be longer than the three lines.
     fn width(&self) -> u16 {
         self.below.width()
     }

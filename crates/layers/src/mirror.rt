@@ -33,11 +33,7 @@ fn column<S: Surface>(below: &S, x: i32) -> Option<i32>
     ensures { MatchOption result (spans (pos 0) (S.means below.now).width x ≡ false) (λ c. c ≡ across (S.means below.now).width x) }
 {
     let width = i32::from(below.width());
-    if 0 <= x && x < width {
-        Some(width - 1 - x)
-    } else {
-        None
-    }
+    (0 <= x && x < width).then(|| width - 1 - x)
 }
 
 impl<S: Surface> Surface for Mirror<S> {
@@ -53,6 +49,7 @@ impl<S: Surface> Surface for Mirror<S> {
 
     ghost keeps = { λ _. nothing };
 
+    // Size and depth forward by hand, as in Rust: a trait for it would be longer than the three lines.
     fn width(&self) -> u16 {
         self.below.width()
     }
@@ -66,17 +63,11 @@ impl<S: Surface> Surface for Mirror<S> {
     }
 
     fn word(&self, x: i32, y: i32) -> u16 {
-        match column(&self.below, x) {
-            Some(column) => self.below.word(column, y),
-            None => 0,
-        }
+        column(&self.below, x).map_or(0, |column| self.below.word(column, y))
     }
 
     fn is_open(&self, x: i32, y: i32) -> bool {
-        match column(&self.below, x) {
-            Some(column) => self.below.is_open(column, y),
-            None => false,
-        }
+        column(&self.below, x).is_some_and(|column| self.below.is_open(column, y))
     }
 
     fn fill(&mut self, x: i32, y: i32, n: u16, v: u16) {

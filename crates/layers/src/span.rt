@@ -1,24 +1,11 @@
 ghost use Rattle.std.specs.Prelude.{◌≡◌, ◌&&◌, ℤ, pos, ◌+ℤ◌, ◌≤ℤ◌, int_le, int_lt};
-ghost use Rattle.std.specs.Int.{int_min};
 ghost use Rattle.surface.specs.Meaning.{spans};
 
-// The count numbers from start upwards.
+// The count numbers from start upwards. No Range: a fill takes a start and a count, and would have to cast back.
 #[derive(Clone, Copy)]
 pub struct Span {
     pub start: i32,
     pub count: u16,
-}
-
-// x + n, or high where that is less.
-fn end_below(x: i32, n: u16, high: i32) -> i32
-    ensures { result ≡ int_min (x +ℤ pos n) high }
-{
-    let end = i64::from(x) + i64::from(n);
-    if end < i64::from(high) {
-        end as i32
-    } else {
-        high
-    }
 }
 
 // The part of the n numbers from x upwards that lies in low..high.
@@ -28,7 +15,7 @@ pub fn cut(x: i32, n: u16, low: i32, high: i32) -> Span
     ensures to { low ≤ℤ high → (result.start +ℤ pos result.count) ≤ℤ high }
 {
     let start = x.max(low);
-    let end = end_below(x, n, high);
+    let end = x.saturating_add(i32::from(n)).min(high);
     if start < end {
         Span {
             start,

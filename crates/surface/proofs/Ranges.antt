@@ -10,13 +10,13 @@ use Rattle.std.specs.Iterator.{Yields, YieldsThen}
 use Rattle.std.specs.List.{FoldsTo}
 use Rattle.std.specs.declared.ops.Range.{Range}
 
-gap-none : (a b : ℤ) → int_gap a b ≡ 0 → b ≤ℤ a
+pub gap-none : (a b : ℤ) → int_gap a b ≡ 0 → b ≤ℤ a
 gap-none (pos a) (pos b) e = omega (arith, ints)
 gap-none (pos a) (negsuc b) e = omega (arith, ints)
 gap-none (negsuc a) (pos b) e = omega (arith, ints)
 gap-none (negsuc a) (negsuc b) e = omega (arith, ints)
 
-gap-some : (a b : ℤ) → 0 < int_gap a b → a <ℤ b
+pub gap-some : (a b : ℤ) → 0 < int_gap a b → a <ℤ b
 gap-some (pos a) (pos b) h = omega (arith, ints)
 gap-some (pos a) (negsuc b) h = omega (arith, ints)
 gap-some (negsuc a) (pos b) h = omega (arith, ints)
@@ -27,14 +27,14 @@ abbrev pub int_range_steps : Range ℤ → Option ℤ → Range ℤ → Type 0
 int_range_steps = range_steps int_gap (λ a b. b ≡ (a +ℤ pos 1))
 
 -- A range was worked from s to t, and the state is as it was; Q holds of each number passed.
-record Passed {P : Type 0} (p q : P) (Q : ℤ → Type 0) (s t : Range ℤ) : Type 0 where
-  state : q ≡ p
-  end : t.end ≡ s.end
-  start : s.start ≤ℤ t.start
-  each : (k : ℤ) → s.start ≤ℤ k → k <ℤ t.start → Q k
+pub record Passed {P : Type 0} (p q : P) (Q : ℤ → Type 0) (s t : Range ℤ) : Type 0 where
+  pub state : q ≡ p
+  pub end : t.end ≡ s.end
+  pub start : s.start ≤ℤ t.start
+  pub each : (k : ℤ) → s.start ≤ℤ k → k <ℤ t.start → Q k
 
 module _ {P : Type 0} (R : P → ℤ → P → Type 0) (p : P) (Q : ℤ → Type 0) (still : (x : ℤ) (q : P) → R p x q → (q ≡ p) × Q x) where
-  passed : (xs : List ℤ) (s t : Range ℤ) (q : P) → Yields int_range_steps s xs t → FoldsTo R p xs q → Passed p q Q s t
+  pub passed : (xs : List ℤ) (s t : Range ℤ) (q : P) → Yields int_range_steps s xs t → FoldsTo R p xs q → Passed p q Q s t
   passed [] s t q y f = record {
     state = sym f;
     end = ap (λ (r : Range ℤ). r.end) (sym y);

@@ -6,12 +6,11 @@ use Rattle.layers.specs.Layers.{fenced}
 use Rattle.layers.proofs.Piles.{below_fence}
 use Rattle.layers.proofs.inside.fill_inside.Goals as goal
 
-pub returns : goal.returns
-returns g c =
+pub returns-clause-picture : goal.returns-clause-picture
+returns-clause-picture g c =
     let fx = c.ranges.x in
     let fy = c.ranges.y in
     let m = g.S.Surface.means in
-    let z = g.S.Surface.rest in
     let cells = strip c.args.x c.args.y c.args.n in
     let fence = c.new-fence.result in
     let last = c.fill.new.self in
@@ -22,5 +21,4 @@ returns g c =
     (g.S.Surface.stays _ _ (ap (λ t. t.1.1) left))
     (subst (λ r. fenced r (m last.below.now) ≡ drawn cells (λ _ _. c.args.v) (fenced fence.rect (m fence.below.now))) (ap (λ t. t.0) left) (simp to_z-of_z at c.fill.ensures.picture)) in
     let all : m last.below.now ≡ drawn (λ a b. cells a b && holds c.args.rect a b) (λ _ _. c.args.v) (m c.args.surface.now) = subst₂ (λ t r. m last.below.now ≡ drawn (λ a b. cells a b && holds r a b) (λ _ _. c.args.v) (m t)) (ap (λ r. r.now) c.new-fence.ensures.below) c.new-fence.ensures.rect picture in
-    let stays : z last.below.now ≡ z c.args.surface.now = ap (λ t. t.1.1) left ∙ ap (λ r. z r.now) c.new-fence.ensures.below in
     search rules

@@ -1,27 +1,13 @@
-use Rattle.std.proofs.Common.{sym, arith}
-use borrow.Author.Differences.{ints}
+use Rattle.std.proofs.Common.{rules}
+use borrow.Author.Tests.{tests}
 use Rattle.std.proofs.lemmas.Int.{to_z-of_z}
-use Rattle.layers.proofs.Rowwise.{shut_down}
+use Rattle.layers.specs.Rows.{row}
+use Rattle.layers.proofs.Finds.{find_back_in_range}
 use Rattle.layers.proofs.meter.last_open.Goals as goal
-
-pub returns-then-is_open : goal.returns-then-is_open
-returns-then-is_open g c =
-    let fy = c.ranges.y in
-    let ft = c.ranges.to in
-    let s = simp to_z-of_z at c.loop-x.invariant.1 in
-    record {
-      low = omega (arith, ints);
-      high = omega (arith, ints);
-      here = sym (simp to_z-of_z at c.if-is_open.ensures);
-      others = λ z p q. s z (omega (arith, ints)) q;
-    }
-
-pub loop-x-preserved : goal.loop-x-preserved
-loop-x-preserved g c = (omega (arith, ints), shut_down _ _ _ _ (omega (arith, ints)) c.loop-x.invariant.1 (sym c.if-is_open.ensures))
 
 pub returns : goal.returns
 returns g c =
     let fy = c.ranges.y in
+    let ff = c.ranges.from in
     let ft = c.ranges.to in
-    let s = simp to_z-of_z at c.loop-x.invariant.1 in
-    λ z p q. s z (omega (arith, ints)) q
+    simp (c.rev.ensures.source, to_z-of_z) at (find_back_in_range _ _ _ c.find.result (row c.args.y (g.S.Surface.means c.args.below.now)) c.find.ensures.ran (λ x q k. search (rules, tests)) (λ x q k. search (rules, tests)))

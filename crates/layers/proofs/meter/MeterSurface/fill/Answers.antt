@@ -6,13 +6,8 @@ use Rattle.layers.proofs.meter.MeterSurface.fill.Goals as goal
 pub invariant_of-self : goal.invariant_of-self
 invariant_of-self g c = record { full = rw c.grown-self.ensures (solid-joined _ _ _ c.args.self.now.full c.reached-more.ensures) }
 
-pub returns : goal.returns
-returns g c =
+pub returns-clause-kept : goal.returns-clause-kept
+returns-clause-kept g c =
     let fx = c.ranges.x in
     let fy = c.ranges.y in
-    let e = simp to_z-of_z at c.reached-more.ensures in
-    record {
-      picture = simp to_z-of_z at c.fill.ensures.picture;
-      kept = more (rw c.grown-self.ensures (grown_joined _ _ _ c.args.self.now.full e));
-      rest = c.fill.ensures.rest;
-    }
+    more (rw c.grown-self.ensures (grown_joined _ _ _ c.args.self.now.full (simp to_z-of_z at c.reached-more.ensures)))

@@ -1,6 +1,6 @@
-use Rattle.std.proofs.lemmas.Int.{to_z-of_z}
+use Rattle.std.proofs.Common.{rules}
 use Rattle.layers.proofs.Mirrors.{blank}
 use Rattle.layers.proofs.mirror.MirrorSurface.word.Goals as goal
 
-pub returns-in-None : goal.returns-in-None
-returns-in-None g c = let f = c.ranges.x in blank _ (g.S.Surface.sound _) c.args.x c.args.y (simp to_z-of_z at c.in-None.ensures)
+pub returns : goal.returns
+returns g c = let beside = blank _ (g.S.Surface.sound c.args.self.now.below) c.args.x c.args.y in search rules
