@@ -12,7 +12,7 @@ use Rattle.playback.specs.Records.{Mark, untouched, marked, Outcome, changed, al
 use Rattle.playback.specs.declared.answer.Answer.{Answer}
 use Rattle.playback.specs.declared.answer.Answer.TheVariants as answer
 use Rattle.playback.specs.declared.context.DeviceContext.{DeviceContext}
-use Rattle.playback.specs.declared.objects.Slot.TheVariants as slot
+use Rattle.playback.specs.declared.objects.Object.TheVariants as object
 use Rattle.player.specs.Runs.{told, Steps, over, lost, broken, played, past, with_context}
 use Rattle.player.specs.Playing.{after}
 use Rattle.player.specs.Views.{seen_record}
@@ -57,21 +57,21 @@ module _ (k : ℕ) where
   -- a record on plane k
   plays-seen : (r : Record) (c : DeviceContext) → Mirrored (plays r c) (plays (seen_record (bit k) r) (seen_context (bit k) c))
   plays-seen of.End c = record { answer = refl; context = refl; mark = still }
-  plays-seen (of.SetWindowOrg x y) c = changed-seen _ _ refl
-  plays-seen (of.SetViewportOrg x y) c = changed-seen _ _ refl
-  plays-seen (of.MoveTo x y) c = changed-seen _ _ refl
-  plays-seen (of.LineTo x y) c = drawing-seen _ _ (line_shadow k c.pencil (device c.origins c.position) (device c.origins (record { x = x; y = y })))
-  plays-seen (of.PatBlt code x y w h) c =
-      drawing-seen _ _ (paint_shadow k c.pencil (device_area c.origins (record { x = x; y = y }) w h) code (brush_shade c.pencil) (brush_shade (seen_pencil (bit k) c.pencil)) (brush_bit k c.pencil))
-  plays-seen (of.BitBlt code x y w h sx sy) c =
-      drawing-seen _ _ (copy_shadow k c.pencil (device_area c.origins (record { x = x; y = y }) w h) (device c.origins (record { x = sx; y = sy })) code (brush_shade c.pencil) (brush_shade (seen_pencil (bit k) c.pencil)) (brush_bit k c.pencil))
-  plays-seen (of.IntersectClipRect l t r b) c = changed-seen _ _ refl
+  plays-seen (of.SetWindowOrg p) c = changed-seen _ _ refl
+  plays-seen (of.SetViewportOrg p) c = changed-seen _ _ refl
+  plays-seen (of.MoveTo p) c = changed-seen _ _ refl
+  plays-seen (of.LineTo p) c = drawing-seen _ _ (line_shadow k c.pencil (device c.origins c.position) (device c.origins p))
+  plays-seen (of.PatBlt code a) c =
+      drawing-seen _ _ (paint_shadow k c.pencil (device_area c.origins a) code (brush_shade c.pencil) (brush_shade (seen_pencil (bit k) c.pencil)) (brush_bit k c.pencil))
+  plays-seen (of.BitBlt code a p) c =
+      drawing-seen _ _ (copy_shadow k c.pencil (device_area c.origins a) (device c.origins p) code (brush_shade c.pencil) (brush_shade (seen_pencil (bit k) c.pencil)) (brush_bit k c.pencil))
+  plays-seen (of.IntersectClipRect near far) c = changed-seen _ _ refl
   plays-seen (of.SetRop2 m) c = changed-seen _ _ refl
   plays-seen (of.SetBkColor w) c = changed-seen _ _ refl
   plays-seen (of.CreateBrushIndirect b) c =
-      allowed-seen _ _ _ _ c (put_answer-seen (bit k) c.objects) (λ i. record { position = c.position; origins = c.origins; pencil = seen_pencil (bit k) c.pencil; objects = put_seen (bit k) (slot.Brush b) c.objects i })
+      allowed-seen _ _ _ _ c (put_answer-seen (bit k) c.objects) (λ i. record { position = c.position; origins = c.origins; pencil = seen_pencil (bit k) c.pencil; objects = put_seen (bit k) (object.Brush b) c.objects i })
   plays-seen (of.CreatePenIndirect p) c =
-      allowed-seen _ _ _ _ c (put_answer-seen (bit k) c.objects) (λ i. record { position = c.position; origins = c.origins; pencil = seen_pencil (bit k) c.pencil; objects = put_seen (bit k) (slot.Pen p) c.objects i })
+      allowed-seen _ _ _ _ c (put_answer-seen (bit k) c.objects) (λ i. record { position = c.position; origins = c.origins; pencil = seen_pencil (bit k) c.pencil; objects = put_seen (bit k) (object.Pen p) c.objects i })
   plays-seen (of.SelectObject j) c =
       allowed-seen _ _ _ _ c (there-seen (bit k) j c.objects) (λ i. record { position = c.position; origins = c.origins; pencil = taken-seen (bit k) j c.objects c.pencil i; objects = seen_objects (bit k) c.objects })
   plays-seen (of.DeleteObject j) c =

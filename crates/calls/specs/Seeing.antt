@@ -1,20 +1,23 @@
 -- Pencils, objects and runs with their colours seen through a view.
-use Rattle.std.specs.Prelude.{ℕ, map}
+use Rattle.std.specs.Prelude.{ℕ, map, Option, Some, None}
 use Rattle.pencil.specs.declared.pencil_state.Pencil.{Pencil}
 use Rattle.playback.specs.declared.context.DeviceContext.{DeviceContext}
+use Rattle.playback.specs.declared.objects.Object.{Object}
+use Rattle.playback.specs.declared.objects.Object.TheVariants as object
 use Rattle.playback.specs.declared.objects.ObjectTable.{ObjectTable}
-use Rattle.playback.specs.declared.objects.Slot.{Slot}
-use Rattle.playback.specs.declared.objects.Slot.TheVariants as slot
 use Rattle.player.specs.Views.{seen_brush, seen_pen}
 use Rattle.player.specs.declared.progress.Progress.{Progress}
 
 abbrev pub seen_pencil : (ℕ → ℕ) → Pencil → Pencil
 seen_pencil view p = record { clip = p.clip; pen = seen_pen view p.pen; mode = p.mode; brush = seen_brush view p.brush; back = view p.back }
 
-abbrev pub seen_slot : (ℕ → ℕ) → Slot → Slot
-seen_slot view slot.Empty = slot.Empty
-seen_slot view (slot.Pen p) = slot.Pen (seen_pen view p)
-seen_slot view (slot.Brush b) = slot.Brush (seen_brush view b)
+abbrev pub seen_object : (ℕ → ℕ) → Object → Object
+seen_object view (object.Pen p) = object.Pen (seen_pen view p)
+seen_object view (object.Brush b) = object.Brush (seen_brush view b)
+
+abbrev pub seen_slot : (ℕ → ℕ) → Option Object → Option Object
+seen_slot view None = None
+seen_slot view (Some o) = Some (seen_object view o)
 
 abbrev pub seen_objects : (ℕ → ℕ) → ObjectTable → ObjectTable
 seen_objects view t = record { slots = map (seen_slot view) t.slots; count = t.count }

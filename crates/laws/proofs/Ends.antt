@@ -54,13 +54,13 @@ allowed-not (Err e) c before h = cc
 
 only_end : (view : ℕ → ℕ) (r : Record) (c : DeviceContext) → Closes (plays (seen_record view r) c) → r ≡ shown.End
 only_end view shown.End c h = refl
-only_end view (shown.SetWindowOrg x y) c h = cc
-only_end view (shown.SetViewportOrg x y) c h = cc
-only_end view (shown.MoveTo x y) c h = cc
-only_end view (shown.LineTo x y) c h = absurd (drawn-not _ _ _ h)
-only_end view (shown.PatBlt code x y w d) c h = absurd (drawn-not _ _ _ h)
-only_end view (shown.BitBlt code x y w d u v) c h = absurd (drawn-not _ _ _ h)
-only_end view (shown.IntersectClipRect a b d e) c h = cc
+only_end view (shown.SetWindowOrg p) c h = cc
+only_end view (shown.SetViewportOrg p) c h = cc
+only_end view (shown.MoveTo p) c h = cc
+only_end view (shown.LineTo p) c h = absurd (drawn-not _ _ _ h)
+only_end view (shown.PatBlt code area) c h = absurd (drawn-not _ _ _ h)
+only_end view (shown.BitBlt code area source) c h = absurd (drawn-not _ _ _ h)
+only_end view (shown.IntersectClipRect near far) c h = cc
 only_end view (shown.SetRop2 m) c h = cc
 only_end view (shown.SetBkColor w) c h = cc
 only_end view (shown.CreateBrushIndirect b) c h = absurd (allowed-not _ _ _ h)

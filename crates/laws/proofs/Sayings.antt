@@ -1,5 +1,5 @@
 -- What a run's answers say of the places where they were given.
-use Rattle.std.proofs.Common.{◌≡◌, ℕ, ◌≤◌, Bool, true, false, cond, List, length, ℤ, pos, negsuc, ◌+ℤ◌, ◌-ℤ◌, ◌≤ℤ◌, Ok, Err, Result, sym, refl, subst, inl, inr, ⊎_elim, arith, w16, to_z}
+use Rattle.std.proofs.Common.{◌≡◌, ℕ, ◌+◌, ◌≤◌, Bool, true, false, cond, List, length, ℤ, pos, negsuc, ◌+ℤ◌, ◌-ℤ◌, ◌≤ℤ◌, Option, Some, None, Ok, Err, Result, sym, refl, subst, inl, inr, ⊎_elim, arith, w16, to_z}
 use Rattle.std.proofs.ByRecursion.{All-push}
 use Rattle.std.proofs.lemmas.Int.{ints}
 use Rattle.std.specs.Cmp.Derive.{both_true}
@@ -9,21 +9,21 @@ use Rattle.codes.specs.declared.refusal.Refusal.TheVariants as refusal
 use Rattle.surface.specs.Meaning.{Meaning}
 use Rattle.drawing.specs.Areas.{coordinate, extent, placed, ranged}
 use Rattle.drawing.specs.Tasks.{refuse, draw}
-use Rattle.metafile.specs.Decoding.{PointIs, Shows, Breaks}
+use Rattle.metafile.specs.Decoding.{PointAt, AreaAt, Shows, Breaks}
 use Rattle.metafile.specs.Frames.{Lies, end, function, parameters}
 use Rattle.metafile.specs.Functions.{Listed, Missized}
+use Rattle.metafile.specs.declared.logical.LogicalArea.{LogicalArea}
+use Rattle.metafile.specs.declared.logical.LogicalPoint.{LogicalPoint}
 use Rattle.metafile.specs.declared.record.Record.{Record}
 use Rattle.metafile.specs.declared.record.Record.TheVariants as shown
 use Rattle.playback.specs.Contexts.{if_there}
-use Rattle.playback.specs.Objects.{remove_answer}
+use Rattle.playback.specs.Objects.{room, remove_answer}
 use Rattle.playback.specs.Places.{device, device_area}
 use Rattle.playback.specs.Records.{Mark, Outcome, allowed, drawing, plays, untouched}
 use Rattle.playback.specs.declared.answer.Answer.{Answer}
 use Rattle.playback.specs.declared.answer.Answer.TheVariants as answer
 use Rattle.playback.specs.declared.context.DeviceContext.{DeviceContext}
-use Rattle.playback.specs.declared.context.LogicalPoint.{LogicalPoint}
-use Rattle.playback.specs.declared.objects.Slot.{Slot}
-use Rattle.playback.specs.declared.objects.Slot.TheVariants as slot
+use Rattle.playback.specs.declared.objects.Object.{Object}
 use Rattle.player.specs.Playing.{none, next}
 use Rattle.player.specs.Runs.{Steps, over, lost, broken, played, past, told, with_context}
 use Rattle.player.specs.Views.{seen_record}
@@ -56,15 +56,15 @@ pub record Settled (c : DeviceContext) : Type 0 where
   pub window : ShortPoint c.origins.window
   pub viewport : ShortPoint c.origins.viewport
 
-pointed : (ps : List ℕ) (x y : ℤ) → PointIs ps x y → ShortPoint (record { x = x; y = y })
-pointed ps x y h = record { x = shortened x _ h.2; y = shortened y _ h.1 }
+pointed : (ps : List ℕ) (i : ℕ) (p : LogicalPoint) → PointAt ps i p → ShortPoint p
+pointed ps i p h = record { x = shortened p.x _ h.1; y = shortened p.y _ h.0 }
 
 at_cell : (c : DeviceContext) (p : LogicalPoint) → Settled c → ShortPoint p → placed (device c.origins p) ≡ true
 at_cell c p s h = both_true (within _ _ _ h.x s.window.x s.viewport.x) (within _ _ _ h.y s.window.y s.viewport.y)
 
-in_range : (c : DeviceContext) (p : LogicalPoint) (w h : ℤ) → Settled c → ShortPoint p → Short w → Short h → pos 0 ≤ℤ w → pos 0 ≤ℤ h
-    → ranged (device_area c.origins p w h) ≡ true
-in_range c p w h s q a b k l = both_true (at_cell c p s q) (both_true (extended w a k) (extended h b l))
+in_range : (c : DeviceContext) (ps : List ℕ) (i : ℕ) (a : LogicalArea) → Settled c → AreaAt ps i a → ranged (device_area c.origins a) ≡ true
+in_range c ps i a s (h, w, p, k, l) =
+    both_true (at_cell c a.at s (pointed ps (i + 4) a.at p)) (both_true (extended a.width (shortened a.width _ w) k) (extended a.height (shortened a.height _ h) l))
 
 -- Causes.
 
@@ -82,19 +82,17 @@ abbrev Fine : Result (Unit {0}) Refusal → Type 0
 Fine (Ok u) = Unit {0}
 Fine (Err c) = Cause c
 
-put_fine : (b : Bool) → Fine (cond b (Ok tt) (Err refusal.TableFull))
-put_fine true = tt
-put_fine false = (omega arith, omega arith)
+put_fine : (s : Option ℕ) → Fine (room s)
+put_fine None = (omega arith, omega arith)
+put_fine (Some i) = tt
 
-there_fine : (s : Slot) → Fine (if_there s)
-there_fine slot.Empty = (omega arith, omega arith)
-there_fine (slot.Pen p) = tt
-there_fine (slot.Brush b) = tt
+there_fine : (s : Option Object) → Fine (if_there s)
+there_fine None = (omega arith, omega arith)
+there_fine (Some o) = tt
 
-remove_fine : (s : Slot) → Fine (remove_answer s)
-remove_fine slot.Empty = (omega arith, omega arith)
-remove_fine (slot.Pen p) = tt
-remove_fine (slot.Brush b) = tt
+remove_fine : (s : Option Object) → Fine (remove_answer s)
+remove_fine None = (omega arith, omega arith)
+remove_fine (Some o) = tt
 
 -- Listed functions.
 
@@ -163,20 +161,16 @@ module _ (file : List ℕ) (p : ℕ) (l : Lies file p) where
 
   record_tells : (view : ℕ → ℕ) (r : Record) (c : DeviceContext) → Shows (function file p) (parameters file p) r → Settled c → Tells (plays (seen_record view r) c)
   record_tells view shown.End c h s = (s, (l, h))
-  record_tells view (shown.SetWindowOrg x y) c h s = (record { position = s.position; window = pointed _ x y h.1; viewport = s.viewport }, (l, inr (inl (inl h.0))))
-  record_tells view (shown.SetViewportOrg x y) c h s = (record { position = s.position; window = s.window; viewport = pointed _ x y h.1 }, (l, inr (inl (inr (inl h.0)))))
-  record_tells view (shown.MoveTo x y) c h s = (record { position = pointed _ x y h.1; window = s.window; viewport = s.viewport }, (l, inr (inl (inr (inr (inr h.0))))))
-  record_tells view (shown.LineTo x y) c h s =
-      drawn_tells (inr (inl (inr (inr (inl h.0))))) _ _ _ _ _ (both_true (at_cell c c.position s s.position) (at_cell c _ s (pointed _ x y h.1)))
-      (record { position = pointed _ x y h.1; window = s.window; viewport = s.viewport })
-  record_tells view (shown.PatBlt code x y w h) c (f, n, k, d, eh, ew, ey, ex, pw, ph) s =
-      painted_tells (paints _ f) _ _ _ _ _ _ d
-      (in_range c (record { x = x; y = y }) w h s (record { x = shortened x _ ex; y = shortened y _ ey }) (shortened w _ ew) (shortened h _ eh) pw ph) s
-  record_tells view (shown.BitBlt code x y w h u v) c (f, n, k, ev, eu, eh, ew, ey, ex, pw, ph) s =
-      drawn_tells (copies _ f) _ _ _ _ _
-      (both_true (in_range c (record { x = x; y = y }) w h s (record { x = shortened x _ ex; y = shortened y _ ey }) (shortened w _ ew) (shortened h _ eh) pw ph)
-      (at_cell c (record { x = u; y = v }) s (record { x = shortened u _ eu; y = shortened v _ ev }))) s
-  record_tells view (shown.IntersectClipRect a b d e) c h s = (record { position = s.position; window = s.window; viewport = s.viewport }, (l, inr (inr (inr (inr (inl h.0))))))
+  record_tells view (shown.SetWindowOrg q) c h s = (record { position = s.position; window = pointed _ _ q h.1.1; viewport = s.viewport }, (l, inr (inl (inl h.0))))
+  record_tells view (shown.SetViewportOrg q) c h s = (record { position = s.position; window = s.window; viewport = pointed _ _ q h.1.1 }, (l, inr (inl (inr (inl h.0)))))
+  record_tells view (shown.MoveTo q) c h s = (record { position = pointed _ _ q h.1.1; window = s.window; viewport = s.viewport }, (l, inr (inl (inr (inr (inr h.0))))))
+  record_tells view (shown.LineTo q) c h s =
+      drawn_tells (inr (inl (inr (inr (inl h.0))))) _ _ _ _ _ (both_true (at_cell c c.position s s.position) (at_cell c _ s (pointed _ _ q h.1.1)))
+      (record { position = pointed _ _ q h.1.1; window = s.window; viewport = s.viewport })
+  record_tells view (shown.PatBlt code a) c (f, n, k, d, h) s = painted_tells (paints _ f) _ _ _ _ _ _ d (in_range c _ 4 a s h) s
+  record_tells view (shown.BitBlt code a q) c (f, n, k, e, h) s =
+      drawn_tells (copies _ f) _ _ _ _ _ (both_true (in_range c _ 10 a s h) (at_cell c q s (pointed _ 4 q e))) s
+  record_tells view (shown.IntersectClipRect near far) c h s = (record { position = s.position; window = s.window; viewport = s.viewport }, (l, inr (inr (inr (inr (inl h.0))))))
   record_tells view (shown.SetRop2 m) c h s = (record { position = s.position; window = s.window; viewport = s.viewport }, (l, modes _ h.0))
   record_tells view (shown.SetBkColor w) c h s = (record { position = s.position; window = s.window; viewport = s.viewport }, (l, grounds _ h.0))
   record_tells view (shown.CreateBrushIndirect b) c h s =

@@ -11,7 +11,7 @@ use Rattle.metafile.specs.declared.record.Record.TheVariants as shown
 use Rattle.playback.specs.Records.{Mark}
 use Rattle.playback.specs.declared.answer.Answer.{Answer}
 use Rattle.playback.specs.declared.answer.Answer.TheVariants as answer
-use Rattle.playback.specs.declared.context.LogicalPoint.{LogicalPoint}
+use Rattle.metafile.specs.declared.logical.LogicalPoint.{LogicalPoint}
 use Rattle.player.specs.Finding.{ShowsAt}
 use Rattle.player.specs.Playing.{Plays, PlayedOut}
 use Rattle.player.specs.Runs.{Steps, begun}

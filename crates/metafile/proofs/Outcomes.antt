@@ -1,5 +1,5 @@
 -- Every function with its parameters shows a record or breaks a rule.
-use Rattle.std.proofs.Common.{◌≡◌, ℕ, ◌⊎◌, List, length, ℤ, pos, negsuc, ◌≤ℤ◌, sym, refl, subst, inl, inr, ⊎_elim, arith}
+use Rattle.std.proofs.Common.{◌≡◌, ℕ, ◌+◌, ◌⊎◌, List, length, ℤ, pos, negsuc, ◌≤ℤ◌, sym, refl, subst, inl, inr, ⊎_elim, arith}
 use Rattle.std.proofs.lemmas.Bool.{cases_eq, cases_lt, cases_Bool}
 use Rattle.std.proofs.lemmas.Int.{ints}
 use Rattle.codes.specs.Operations.{sourced}
@@ -13,6 +13,8 @@ use Rattle.pencil.specs.declared.pen.Pen.TheVariants as pen
 use Rattle.metafile.specs.Bytes.{word, signed}
 use Rattle.metafile.specs.Functions.{Pointed, Indexed, Listed}
 use Rattle.metafile.specs.Decoding.{PointIs, Negative, Shows, Breaks}
+use Rattle.metafile.specs.declared.logical.LogicalArea.{LogicalArea}
+use Rattle.metafile.specs.declared.logical.LogicalPoint.{LogicalPoint}
 use Rattle.metafile.specs.declared.record.Record.{Record}
 use Rattle.metafile.specs.declared.record.Record.TheVariants as shown
 use Rattle.metafile.proofs.Numbered.{mode_at, mode_number-mode_at, style_at, style_number-style_at, thin_tells}
@@ -49,9 +51,15 @@ a_pen style width colour =
 end : (ps : List ℕ) → Outcome 0x0000 ps
 end ps = ⊎_elim (λ e. inl (shown.End, (refl, e))) (λ n. inr (refusal.RecordSize, inl (refl, n))) (cases_eq (length ps) 0)
 
-point : (f : ℕ) (ps : List ℕ) (make : ℤ → ℤ → Record) → Pointed f → ((x y : ℤ) → PointIs ps x y → Shows f ps (make x y)) → Outcome f ps
+abbrev point_at : List ℕ → ℕ → LogicalPoint
+point_at ps i = record { x = signed ps (i + 2); y = signed ps i }
+
+abbrev area_at : List ℕ → ℕ → LogicalArea
+area_at ps i = record { at = point_at ps (i + 4); width = signed ps (i + 2); height = signed ps i }
+
+point : (f : ℕ) (ps : List ℕ) (make : LogicalPoint → Record) → Pointed f → ((p : LogicalPoint) → PointIs ps p → Shows f ps (make p)) → Outcome f ps
 point f ps make h shows =
-    ⊎_elim (λ e. inl (make (signed ps 2) (signed ps 0), shows (signed ps 2) (signed ps 0) (e, refl, refl)))
+    ⊎_elim (λ e. inl (make (point_at ps 0), shows (point_at ps 0) (e, (refl, refl))))
     (λ n. inr (refusal.RecordSize, inr (inl (h, n))))
     (cases_eq (length ps) 4)
 
@@ -64,8 +72,8 @@ pat_blt ps =
     (λ s. ⊎_elim
     (λ n. inr (refusal.Value, inr (inr (inr (inl (refl, e, low, s, n))))))
     (λ p. inl (
-      shown.PatBlt (word ps 2) (signed ps 10) (signed ps 8) (signed ps 6) (signed ps 4),
-      (refl, e, (low, refl), s, refl, refl, refl, refl, p.0, p.1),
+      shown.PatBlt (word ps 2) (area_at ps 4),
+      (refl, e, (low, refl), s, (refl, refl, (refl, refl), p.0, p.1)),
     ))
     (signs (signed ps 6) (signed ps 4)))
     (cases_Bool (sourced (word ps 2))))
@@ -81,8 +89,8 @@ bit_blt ps =
     (λ low. ⊎_elim
     (λ n. inr (refusal.Value, inr (inr (inr (inr (refl, e, low, n))))))
     (λ p. inl (
-      shown.BitBlt (word ps 2) (signed ps 16) (signed ps 14) (signed ps 12) (signed ps 10) (signed ps 6) (signed ps 4),
-      (refl, e, (low, refl), refl, refl, refl, refl, refl, refl, p.0, p.1),
+      shown.BitBlt (word ps 2) (area_at ps 10) (point_at ps 4),
+      (refl, e, (low, refl), (refl, refl), (refl, refl, (refl, refl), p.0, p.1)),
     ))
     (signs (signed ps 12) (signed ps 10)))
     (λ high. inr (refusal.Operation, inr (refl, e, high)))
@@ -93,7 +101,7 @@ bit_blt ps =
 intersect : (ps : List ℕ) → Outcome 0x0416 ps
 intersect ps =
     ⊎_elim
-    (λ e. inl (shown.IntersectClipRect (signed ps 6) (signed ps 4) (signed ps 2) (signed ps 0), (refl, e, refl, refl, refl, refl)))
+    (λ e. inl (shown.IntersectClipRect (point_at ps 4) (point_at ps 0), (refl, e, (refl, refl), (refl, refl))))
     (λ n. inr (refusal.RecordSize, inr (inr (inr (inr (inl (refl, n)))))))
     (cases_eq (length ps) 8)
 
@@ -159,10 +167,10 @@ index f ps make h shows =
 
 listed : (f : ℕ) (ps : List ℕ) → Listed f → Outcome f ps
 listed f ps (inl e) = subst (λ (n : ℕ). Outcome n ps) (sym e) (end ps)
-listed f ps (inr (inl (inl e))) = point f ps shown.SetWindowOrg (inl e) (λ x y h. (e, h))
-listed f ps (inr (inl (inr (inl e)))) = point f ps shown.SetViewportOrg (inr (inl e)) (λ x y h. (e, h))
-listed f ps (inr (inl (inr (inr (inl e))))) = point f ps shown.LineTo (inr (inr (inl e))) (λ x y h. (e, h))
-listed f ps (inr (inl (inr (inr (inr e))))) = point f ps shown.MoveTo (inr (inr (inr e))) (λ x y h. (e, h))
+listed f ps (inr (inl (inl e))) = point f ps shown.SetWindowOrg (inl e) (λ p h. (e, h))
+listed f ps (inr (inl (inr (inl e)))) = point f ps shown.SetViewportOrg (inr (inl e)) (λ p h. (e, h))
+listed f ps (inr (inl (inr (inr (inl e))))) = point f ps shown.LineTo (inr (inr (inl e))) (λ p h. (e, h))
+listed f ps (inr (inl (inr (inr (inr e))))) = point f ps shown.MoveTo (inr (inr (inr e))) (λ p h. (e, h))
 listed f ps (inr (inr (inl e))) = subst (λ (n : ℕ). Outcome n ps) (sym e) (pat_blt ps)
 listed f ps (inr (inr (inr (inl e)))) = subst (λ (n : ℕ). Outcome n ps) (sym e) (bit_blt ps)
 listed f ps (inr (inr (inr (inr (inl e))))) = subst (λ (n : ℕ). Outcome n ps) (sym e) (intersect ps)
@@ -173,23 +181,8 @@ listed f ps (inr (inr (inr (inr (inr (inr (inr (inr (inl e))))))))) = subst (λ 
 listed f ps (inr (inr (inr (inr (inr (inr (inr (inr (inr (inl e)))))))))) = index f ps shown.SelectObject (inl e) (λ i h. (e, h.0, h.1))
 listed f ps (inr (inr (inr (inr (inr (inr (inr (inr (inr (inr e)))))))))) = index f ps shown.DeleteObject (inr e) (λ i h. (e, h.0, h.1))
 
-either : {A B : Type 0} → A ⊎ (A → ⊥) → B ⊎ (B → ⊥) → (A ⊎ B) ⊎ (A ⊎ B → ⊥)
-either (inl a) b = inl (inl a)
-either (inr n) (inl b) = inl (inr b)
-either (inr n) (inr m) = inr (λ h. ⊎_elim n m h)
-
 cases_listed : (f : ℕ) → Listed f ⊎ (Listed f → ⊥)
-cases_listed f =
-    either (cases_eq f 0x0000)
-    (either (either (cases_eq f 0x020B) (either (cases_eq f 0x020D) (either (cases_eq f 0x0213) (cases_eq f 0x0214))))
-    (either (cases_eq f 0x061D)
-    (either (cases_eq f 0x0922)
-    (either (cases_eq f 0x0416)
-    (either (cases_eq f 0x0104)
-    (either (cases_eq f 0x0201)
-    (either (cases_eq f 0x02FC)
-    (either (cases_eq f 0x02FA)
-    (either (cases_eq f 0x012D) (cases_eq f 0x01F0))))))))))
+cases_listed f = grind arith
 
 pub outcome : (f : ℕ) (ps : List ℕ) → Outcome f ps
 outcome f ps =

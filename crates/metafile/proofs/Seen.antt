@@ -1,5 +1,5 @@
 -- What a function shows of its parameters, computed: a record that is shown, or a rule that is broken, is the one computed.
-use Rattle.std.proofs.Common.{◌≡◌, ℕ, ◌<◌, ◌≤◌, Bool, true, false, cond, ◌&&◌, ◌||◌, eqb, ltb, leb, ◌⊎◌, List, [], length, ℤ, pos, ◌≤ℤ◌, Ok, Err, Result, sym, refl, ap, ◌∙◌, subst, inl, inr, arith, Bor}
+use Rattle.std.proofs.Common.{◌≡◌, ℕ, ◌+◌, ◌<◌, ◌≤◌, Bool, true, false, cond, ◌&&◌, ◌||◌, eqb, ltb, leb, ◌⊎◌, List, [], length, ℤ, pos, ◌≤ℤ◌, Ok, Err, Result, sym, refl, ap, ◌∙◌, subst, inl, inr, arith, Bor}
 use lib.Signed.{lt_z}
 use Rattle.std.proofs.lemmas.Bool.Decides.{nat_tests}
 use Rattle.std.proofs.lemmas.Int.{ints}
@@ -14,8 +14,10 @@ use Rattle.pencil.specs.declared.pen.Pen.{Pen}
 use Rattle.pencil.specs.declared.pen.Pen.TheVariants as pen
 use Rattle.metafile.specs.Bytes.{word, signed}
 use Rattle.metafile.specs.Functions.{Listed, Missized}
-use Rattle.metafile.specs.Decoding.{PointIs, Negative, Shows, Breaks, BreaksColour, BreaksOperation, BreaksValue}
+use Rattle.metafile.specs.Decoding.{PointAt, AreaAt, PointIs, Negative, Shows, Breaks, BreaksColour, BreaksOperation, BreaksValue}
 use Rattle.metafile.specs.Exact.{Elsewhere}
+use Rattle.metafile.specs.declared.logical.LogicalArea.{LogicalArea}
+use Rattle.metafile.specs.declared.logical.LogicalPoint.{LogicalPoint}
 use Rattle.metafile.specs.declared.record.Record.{Record}
 use Rattle.metafile.specs.declared.record.Record.TheVariants as shown
 use Rattle.metafile.proofs.Numbered.{mode_at, mode_back, mode_least, mode_most, style_at, style_back, style_most, thin, thin_tells}
@@ -35,8 +37,20 @@ coded upper depends r = cond (ltb upper 256) (cond depends (Err refusal.Operatio
 abbrev measured : ℤ → ℤ → Seen → Seen
 measured w h r = cond (lt_z w (pos 0) || lt_z h (pos 0)) (Err refusal.Value) r
 
-abbrev point : (ℤ → ℤ → Record) → List ℕ → Seen
-point make ps = sized (eqb (length ps) 4) (Ok (make (signed ps 2) (signed ps 0)))
+abbrev point_at : List ℕ → ℕ → LogicalPoint
+point_at ps i = record { x = signed ps (i + 2); y = signed ps i }
+
+abbrev area_at : List ℕ → ℕ → LogicalArea
+area_at ps i = record { at = point_at ps (i + 4); width = signed ps (i + 2); height = signed ps i }
+
+same_point : (ps : List ℕ) (i : ℕ) (p : LogicalPoint) → PointAt ps i p → point_at ps i ≡ p
+same_point ps i p (y, x) = λ k. record { x = sym x k; y = sym y k }
+
+same_area : (ps : List ℕ) (i : ℕ) (a : LogicalArea) → AreaAt ps i a → area_at ps i ≡ a
+same_area ps i a (h, w, p, l, m) = λ k. record { at = same_point ps (i + 4) a.at p k; width = sym w k; height = sym h k }
+
+abbrev point : (LogicalPoint → Record) → List ℕ → Seen
+point make ps = sized (eqb (length ps) 4) (Ok (make (point_at ps 0)))
 
 abbrev index : (ℕ → Record) → List ℕ → Seen
 index make ps = sized (eqb (length ps) 2) (Ok (make (word ps 0)))
@@ -65,10 +79,10 @@ seen f ps q =
     (cond (eqb f 0x0213) (point shown.LineTo ps)
     (cond (eqb f 0x0214) (point shown.MoveTo ps)
     (cond (eqb f 0x061D) (sized (eqb (length ps) 12) (coded (word ps 2) (sourced (word ps 2)) (measured (signed ps 6) (signed ps 4)
-    (Ok (shown.PatBlt (word ps 2) (signed ps 10) (signed ps 8) (signed ps 6) (signed ps 4))))))
+    (Ok (shown.PatBlt (word ps 2) (area_at ps 4))))))
     (cond (eqb f 0x0922) (sized (eqb (length ps) 18) (coded (word ps 2) false (measured (signed ps 12) (signed ps 10)
-    (Ok (shown.BitBlt (word ps 2) (signed ps 16) (signed ps 14) (signed ps 12) (signed ps 10) (signed ps 6) (signed ps 4))))))
-    (cond (eqb f 0x0416) (sized (eqb (length ps) 8) (Ok (shown.IntersectClipRect (signed ps 6) (signed ps 4) (signed ps 2) (signed ps 0))))
+    (Ok (shown.BitBlt (word ps 2) (area_at ps 10) (point_at ps 4))))))
+    (cond (eqb f 0x0416) (sized (eqb (length ps) 8) (Ok (shown.IntersectClipRect (point_at ps 4) (point_at ps 0))))
     (cond (eqb f 0x0104) (sized (eqb (length ps) 2 || eqb (length ps) 4) (numbered (word ps 0)))
     (cond (eqb f 0x0201) (sized (eqb (length ps) 4) (coloured (word ps 2) (Ok (shown.SetBkColor (word ps 0)))))
     (cond (eqb f 0x02FC) (sized (eqb (length ps) 8) (coloured (word ps 4) (brushed (word ps 0) (word ps 2) (word ps 6))))
@@ -80,9 +94,6 @@ seen f ps q =
 -- what is seen of a number that f is
 at : (f n : ℕ) (ps : List ℕ) (q : Bor (List ℕ)) (r : Seen) → f ≡ n → seen n ps q ≡ r → seen f ps q ≡ r
 at f n ps q r e h = subst (λ (m : ℕ). seen m ps q ≡ r) (sym e) h
-
-ne_eqb : (f k : ℕ) → (f ≡ k → ⊥) → eqb f k ≡ false
-ne_eqb f k h = grind (arith, nat_tests)
 
 right : (n k : ℕ) (r : Seen) → n ≡ k → sized (eqb n k) r ≡ r
 right n k r h = grind (arith, nat_tests)
@@ -115,8 +126,7 @@ whole : (w h : ℤ) (r : Seen) → pos 0 ≤ℤ w → pos 0 ≤ℤ h → measure
 whole w h r a b = grind (arith, ints)
 
 negative : (w h : ℤ) (r : Seen) → Negative w h → measured w h r ≡ Err refusal.Value
-negative w h r (inl n) = grind (arith, ints)
-negative w h r (inr n) = grind (arith, ints)
+negative w h r n = grind (arith, ints)
 
 mode_seen : (n : ℕ) (m : ℕ) → n ≡ m → 1 ≤ m → m ≤ 16 → numbered n ≡ Ok (shown.SetRop2 (mode_at m))
 mode_seen n m e l h = grind (arith, nat_tests)
@@ -152,28 +162,11 @@ no_pen style width colour h =
       | inr t ↦ let e = t.0 in grind (arith, nat_tests)
     ]
 
-point-seen : (make : ℤ → ℤ → Record) (ps : List ℕ) (x y : ℤ) → PointIs ps x y → point make ps ≡ Ok (make x y)
-point-seen make ps x y (n, ey, ex) = right (length ps) 4 _ n ∙ cc
+point-seen : (make : LogicalPoint → Record) (ps : List ℕ) (p : LogicalPoint) → PointIs ps p → point make ps ≡ Ok (make p)
+point-seen make ps p (n, e) = right (length ps) 4 _ n ∙ ap (λ q. Ok (make q)) (same_point ps 0 p e)
 
 seen_other : (f : ℕ) (ps : List ℕ) (q : Bor (List ℕ)) → (Listed f → ⊥) → seen f ps q ≡ Ok (shown.Unlisted f q)
-seen_other f ps q n =
-    let ne : (k : ℕ) → (f ≡ k → ⊥) → eqb f k ≡ false = ne_eqb f in
-    simp (
-      ne 0x0000 (λ e. n (inl e)),
-      ne 0x020B (λ e. n (inr (inl (inl e)))),
-      ne 0x020D (λ e. n (inr (inl (inr (inl e))))),
-      ne 0x0213 (λ e. n (inr (inl (inr (inr (inl e)))))),
-      ne 0x0214 (λ e. n (inr (inl (inr (inr (inr e)))))),
-      ne 0x061D (λ e. n (inr (inr (inl e)))),
-      ne 0x0922 (λ e. n (inr (inr (inr (inl e))))),
-      ne 0x0416 (λ e. n (inr (inr (inr (inr (inl e)))))),
-      ne 0x0104 (λ e. n (inr (inr (inr (inr (inr (inl e))))))),
-      ne 0x0201 (λ e. n (inr (inr (inr (inr (inr (inr (inl e)))))))),
-      ne 0x02FC (λ e. n (inr (inr (inr (inr (inr (inr (inr (inl e))))))))),
-      ne 0x02FA (λ e. n (inr (inr (inr (inr (inr (inr (inr (inr (inl e)))))))))),
-      ne 0x012D (λ e. n (inr (inr (inr (inr (inr (inr (inr (inr (inr (inl e))))))))))),
-      ne 0x01F0 (λ e. n (inr (inr (inr (inr (inr (inr (inr (inr (inr (inr e))))))))))),
-    )
+seen_other f ps q n = grind (arith, nat_tests)
 
 seen_size : (f : ℕ) (ps : List ℕ) (q : Bor (List ℕ)) → Missized f (length ps) → seen f ps q ≡ Err refusal.RecordSize
 seen_size f ps q (inl (e, n)) = at f 0x0000 ps q _ e (wrong (length ps) 0 _ n)
@@ -192,14 +185,10 @@ seen_size f ps q (inr (inr (inr (inr (inr (inr (inr (inr (inr (inl e, n)))))))))
 seen_size f ps q (inr (inr (inr (inr (inr (inr (inr (inr (inr (inr e, n)))))))))) = at f 0x01F0 ps q _ e (wrong (length ps) 2 _ n)
 
 seen-colour : (f : ℕ) (ps : List ℕ) (q : Bor (List ℕ)) → BreaksColour f ps → seen f ps q ≡ Err refusal.Colour
-seen-colour f ps q (inl (e, n, u)) = at f 0x0201 ps q _ e (right (length ps) 4 _ n ∙ unhued (word ps 2) _ u)
-seen-colour f ps q (inr (inl (e, n, u))) = at f 0x02FC ps q _ e (right (length ps) 8 _ n ∙ unhued (word ps 4) _ u)
-seen-colour f ps q (inr (inr (e, n, u))) = at f 0x02FA ps q _ e (right (length ps) 10 _ n ∙ unhued (word ps 8) _ u)
+seen-colour f ps q h = grind (arith, nat_tests)
 
 seen_operation : (f : ℕ) (ps : List ℕ) (q : Bor (List ℕ)) → BreaksOperation f ps → seen f ps q ≡ Err refusal.Operation
-seen_operation f ps q (inl (e, n, inl u)) = at f 0x061D ps q _ e (right (length ps) 12 _ n ∙ high (word ps 2) (sourced (word ps 2)) _ u)
-seen_operation f ps q (inl (e, n, inr s)) = at f 0x061D ps q _ e (right (length ps) 12 _ n ∙ depends (word ps 2) (sourced (word ps 2)) _ s)
-seen_operation f ps q (inr (e, n, u)) = at f 0x0922 ps q _ e (right (length ps) 18 _ n ∙ high (word ps 2) false _ u)
+seen_operation f ps q h = grind (arith, nat_tests)
 
 seen_value : (f : ℕ) (ps : List ℕ) (q : Bor (List ℕ)) → BreaksValue f ps → seen f ps q ≡ Err refusal.Value
 seen_value f ps q (inl (e, n, m)) = at f 0x0104 ps q _ e (right_two (length ps) _ n ∙ no_mode (word ps 0) m)
@@ -212,37 +201,41 @@ seen_value f ps q (inr (inr (inr (inl (e, n, u, s, m))))) =
 seen_value f ps q (inr (inr (inr (inr (e, n, u, m))))) =
     at f 0x0922 ps q _ e (right (length ps) 18 _ n ∙ lawful (word ps 2) false _ u refl ∙ negative (signed ps 12) (signed ps 10) _ m)
 
-alike_causes : (a : Seen) (d e : Refusal) → a ≡ Err d → a ≡ Err e → d ≡ e
-alike_causes a d e p q = cc
-
 alike_records : (a : Seen) (r s : Record) → a ≡ Ok r → a ≡ Ok s → r ≡ s
 alike_records a r s p q = cc
 
 apart : (a : Seen) (r : Record) (e : Refusal) → a ≡ Ok r → a ≡ Err e → ⊥
-apart a r e p q = let z : ◌≡◌ {A = ℕ} 0 1 = cc in omega arith
+apart a r e p q = cc
 
 -- a listed record is what is seen, whatever slice an unlisted one would refer to
 pub shown_record : (f : ℕ) (ps : List ℕ) (r : Record) → Shows f ps r
     → ((q : Bor (List ℕ)) → seen f ps q ≡ Ok r)
     ⊎ ((p : Bor (List ℕ)) × (r ≡ shown.Unlisted f p) × (p.now ≡ ps) × ((q : Bor (List ℕ)) → seen f ps q ≡ Ok (shown.Unlisted f q)))
 shown_record f ps shown.End h = inl (λ q. at f 0x0000 ps q (Ok shown.End) h.0 (right (length ps) 0 _ h.1))
-shown_record f ps (shown.SetWindowOrg x y) h = inl (λ q. at f 0x020B ps q _ h.0 (point-seen shown.SetWindowOrg ps x y h.1))
-shown_record f ps (shown.SetViewportOrg x y) h = inl (λ q. at f 0x020D ps q _ h.0 (point-seen shown.SetViewportOrg ps x y h.1))
-shown_record f ps (shown.MoveTo x y) h = inl (λ q. at f 0x0214 ps q _ h.0 (point-seen shown.MoveTo ps x y h.1))
-shown_record f ps (shown.LineTo x y) h = inl (λ q. at f 0x0213 ps q _ h.0 (point-seen shown.LineTo ps x y h.1))
-shown_record f ps (shown.PatBlt c x y w h) (e, n, (low, k), s, eh, ew, ey, ex, pw, ph) = inl (λ q.
+shown_record f ps (shown.SetWindowOrg p) h = inl (λ q. at f 0x020B ps q _ h.0 (point-seen shown.SetWindowOrg ps p h.1))
+shown_record f ps (shown.SetViewportOrg p) h = inl (λ q. at f 0x020D ps q _ h.0 (point-seen shown.SetViewportOrg ps p h.1))
+shown_record f ps (shown.MoveTo p) h = inl (λ q. at f 0x0214 ps q _ h.0 (point-seen shown.MoveTo ps p h.1))
+shown_record f ps (shown.LineTo p) h = inl (λ q. at f 0x0213 ps q _ h.0 (point-seen shown.LineTo ps p h.1))
+shown_record f ps (shown.PatBlt c a) (e, n, (low, k), s, h) = inl (λ q.
     at f 0x061D ps q _ e
     (right (length ps) 12 _ n
     ∙ lawful (word ps 2) (sourced (word ps 2)) _ low (ap sourced (sym k) ∙ s)
-    ∙ whole (signed ps 6) (signed ps 4) _ (subst (λ z. pos 0 ≤ℤ z) ew pw) (subst (λ z. pos 0 ≤ℤ z) eh ph)
-    ∙ cc))
-shown_record f ps (shown.BitBlt c x y w h u v) (e, n, (low, k), ev, eu, eh, ew, ey, ex, pw, ph) = inl (λ q.
+    ∙ whole (signed ps 6) (signed ps 4) _ (subst (λ z. pos 0 ≤ℤ z) h.1 h.3) (subst (λ z. pos 0 ≤ℤ z) h.0 h.4)
+    ∙ ap (λ b. Ok (shown.PatBlt (word ps 2) b)) (same_area ps 4 a h)
+    ∙ ap (λ d. Ok (shown.PatBlt d a)) (sym k)))
+shown_record f ps (shown.BitBlt c a u) (e, n, (low, k), v, h) = inl (λ q.
     at f 0x0922 ps q _ e
     (right (length ps) 18 _ n
     ∙ lawful (word ps 2) false _ low refl
-    ∙ whole (signed ps 12) (signed ps 10) _ (subst (λ z. pos 0 ≤ℤ z) ew pw) (subst (λ z. pos 0 ≤ℤ z) eh ph)
-    ∙ cc))
-shown_record f ps (shown.IntersectClipRect l t r b) (e, n, eb, er, et, el) = inl (λ q. at f 0x0416 ps q _ e (right (length ps) 8 _ n ∙ cc))
+    ∙ whole (signed ps 12) (signed ps 10) _ (subst (λ z. pos 0 ≤ℤ z) h.1 h.3) (subst (λ z. pos 0 ≤ℤ z) h.0 h.4)
+    ∙ ap (λ b. Ok (shown.BitBlt (word ps 2) b (point_at ps 4))) (same_area ps 10 a h)
+    ∙ ap (λ d. Ok (shown.BitBlt (word ps 2) a d)) (same_point ps 4 u v)
+    ∙ ap (λ d. Ok (shown.BitBlt d a u)) (sym k)))
+shown_record f ps (shown.IntersectClipRect m n) (e, k, t, b) = inl (λ q.
+    at f 0x0416 ps q _ e
+    (right (length ps) 8 _ k
+    ∙ ap (λ z. Ok (shown.IntersectClipRect z (point_at ps 0))) (same_point ps 4 m b)
+    ∙ ap (λ z. Ok (shown.IntersectClipRect m z)) (same_point ps 0 n t)))
 shown_record f ps (shown.SetRop2 m) (e, n, k) = inl (λ q.
     at f 0x0104 ps q _ e
     (right_two (length ps) _ n
@@ -280,7 +273,7 @@ pub one_cause : (f : ℕ) (ps : List ℕ) (d e : Refusal) → Breaks f ps d → 
 one_cause f ps d e h k =
     let a : seen f ps slice ≡ Err d = seen_cause f ps d slice h in
     let b : seen f ps slice ≡ Err e = seen_cause f ps e slice k in
-    alike_causes (seen f ps slice) d e a b
+    cc
 
 pub not_both : (f : ℕ) (ps : List ℕ) (r : Record) (e : Refusal) → Shows f ps r → Breaks f ps e → ⊥
 not_both f ps r e h k =

@@ -7,12 +7,18 @@ use Rattle.codes.specs.declared.refusal.Refusal.TheVariants as refusal
 use Rattle.pencil.specs.Tools.{PenIs, NoPen, BrushIs, NoBrush}
 use Rattle.metafile.specs.Bytes.{word, signed}
 use Rattle.metafile.specs.Functions.{Listed, Missized}
+use Rattle.metafile.specs.declared.logical.LogicalArea.{LogicalArea}
+use Rattle.metafile.specs.declared.logical.LogicalPoint.{LogicalPoint}
 use Rattle.metafile.specs.declared.record.Record.{Record}
 use Rattle.metafile.specs.declared.record.Record.TheVariants as shown
 
--- a point: y before x
-abbrev pub PointIs : List ℕ → ℤ → ℤ → Type 0
-PointIs ps x y = (length ps ≡ 4) × (y ≡ signed ps 0) × (x ≡ signed ps 2)
+-- a point lies at i: y before x
+abbrev pub PointAt : List ℕ → ℕ → LogicalPoint → Type 0
+PointAt ps i p = (p.y ≡ signed ps i) × (p.x ≡ signed ps (i + 2))
+
+-- the parameters are a point
+abbrev pub PointIs : List ℕ → LogicalPoint → Type 0
+PointIs ps p = (length ps ≡ 4) × PointAt ps 0 p
 
 -- a colour's number of 32 bits lies at i: the colour in its lower half, and 0x0100 in its upper half
 abbrev pub Coloured : List ℕ → ℕ → Type 0
@@ -22,6 +28,10 @@ Coloured ps i = word ps (i + 2) ≡ 0x0100
 abbrev pub Coded : List ℕ → ℕ → ℕ → Type 0
 Coded ps i code = (word ps (i + 2) < 256) × (code ≡ word ps (i + 2))
 
+-- an area lies at i: height, width and corner; neither height nor width is below 0
+abbrev pub AreaAt : List ℕ → ℕ → LogicalArea → Type 0
+AreaAt ps i a = (a.height ≡ signed ps i) × (a.width ≡ signed ps (i + 2)) × PointAt ps (i + 4) a.at × (pos 0 ≤ℤ a.width) × (pos 0 ≤ℤ a.height)
+
 -- a width or a height below 0
 abbrev pub Negative : ℤ → ℤ → Type 0
 Negative width height = (width <ℤ pos 0) ⊎ (height <ℤ pos 0)
@@ -29,22 +39,13 @@ Negative width height = (width <ℤ pos 0) ⊎ (height <ℤ pos 0)
 -- the record that is asked for
 abbrev pub Shows : ℕ → List ℕ → Record → Type 0
 Shows f ps shown.End = (f ≡ 0x0000) × (length ps ≡ 0)
-Shows f ps (shown.SetWindowOrg x y) = (f ≡ 0x020B) × PointIs ps x y
-Shows f ps (shown.SetViewportOrg x y) = (f ≡ 0x020D) × PointIs ps x y
-Shows f ps (shown.MoveTo x y) = (f ≡ 0x0214) × PointIs ps x y
-Shows f ps (shown.LineTo x y) = (f ≡ 0x0213) × PointIs ps x y
-Shows f ps (shown.PatBlt code x y width height) =
-    (f ≡ 0x061D) × (length ps ≡ 12) × Coded ps 0 code × (sourced code ≡ false)
-    × (height ≡ signed ps 4) × (width ≡ signed ps 6) × (y ≡ signed ps 8) × (x ≡ signed ps 10)
-    × (pos 0 ≤ℤ width) × (pos 0 ≤ℤ height)
-Shows f ps (shown.BitBlt code x y width height source-x source-y) =
-    (f ≡ 0x0922) × (length ps ≡ 18) × Coded ps 0 code
-    × (source-y ≡ signed ps 4) × (source-x ≡ signed ps 6)
-    × (height ≡ signed ps 10) × (width ≡ signed ps 12) × (y ≡ signed ps 14) × (x ≡ signed ps 16)
-    × (pos 0 ≤ℤ width) × (pos 0 ≤ℤ height)
-Shows f ps (shown.IntersectClipRect left top right bottom) =
-    (f ≡ 0x0416) × (length ps ≡ 8)
-    × (bottom ≡ signed ps 0) × (right ≡ signed ps 2) × (top ≡ signed ps 4) × (left ≡ signed ps 6)
+Shows f ps (shown.SetWindowOrg origin) = (f ≡ 0x020B) × PointIs ps origin
+Shows f ps (shown.SetViewportOrg origin) = (f ≡ 0x020D) × PointIs ps origin
+Shows f ps (shown.MoveTo to) = (f ≡ 0x0214) × PointIs ps to
+Shows f ps (shown.LineTo to) = (f ≡ 0x0213) × PointIs ps to
+Shows f ps (shown.PatBlt code area) = (f ≡ 0x061D) × (length ps ≡ 12) × Coded ps 0 code × (sourced code ≡ false) × AreaAt ps 4 area
+Shows f ps (shown.BitBlt code area source) = (f ≡ 0x0922) × (length ps ≡ 18) × Coded ps 0 code × PointAt ps 4 source × AreaAt ps 10 area
+Shows f ps (shown.IntersectClipRect near far) = (f ≡ 0x0416) × (length ps ≡ 8) × PointAt ps 0 far × PointAt ps 4 near
 Shows f ps (shown.SetRop2 mode) = (f ≡ 0x0104) × ((length ps ≡ 2) ⊎ (length ps ≡ 4)) × (mode_number mode ≡ word ps 0)
 Shows f ps (shown.SetBkColor colour) = (f ≡ 0x0201) × (length ps ≡ 4) × Coloured ps 0 × (colour ≡ word ps 0)
 Shows f ps (shown.CreateBrushIndirect brush) = (f ≡ 0x02FC) × (length ps ≡ 8) × Coloured ps 2 × BrushIs (word ps 0) (word ps 2) (word ps 6) brush

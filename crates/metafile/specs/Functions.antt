@@ -1,5 +1,7 @@
 -- The table of functions: those that are listed, the bytes of parameters that each may have, and its published name.
 use Rattle.std.specs.Prelude.{◌≡◌, ℕ, ◌⊎◌, List, codes, ◌≢◌}
+use Rattle.metafile.specs.declared.record_type.RecordType.{RecordType}
+use Rattle.metafile.specs.declared.record_type.RecordType.TheVariants as type
 
 -- the functions of a point
 abbrev pub Pointed : ℕ → Type 0
@@ -53,3 +55,20 @@ Named f t =
     ⊎ ((f ≡ 0x02FA) × (t ≡ codes "META_CREATEPENINDIRECT"))
     ⊎ ((f ≡ 0x012D) × (t ≡ codes "META_SELECTOBJECT"))
     ⊎ ((f ≡ 0x01F0) × (t ≡ codes "META_DELETEOBJECT"))
+
+-- the number of a listed function
+abbrev pub function_of : RecordType → ℕ
+function_of type.Eof = 0x0000
+function_of type.SetWindowOrg = 0x020B
+function_of type.SetViewportOrg = 0x020D
+function_of type.MoveTo = 0x0214
+function_of type.LineTo = 0x0213
+function_of type.PatBlt = 0x061D
+function_of type.BitBlt = 0x0922
+function_of type.IntersectClipRect = 0x0416
+function_of type.SetRop2 = 0x0104
+function_of type.SetBkColor = 0x0201
+function_of type.CreateBrushIndirect = 0x02FC
+function_of type.CreatePenIndirect = 0x02FA
+function_of type.SelectObject = 0x012D
+function_of type.DeleteObject = 0x01F0

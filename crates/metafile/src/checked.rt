@@ -1,6 +1,7 @@
 ghost use Rattle.std.specs.Prelude.{◌≡◌};
 
 // A file whose header stands: its bytes up to the stated end, the size of its object table, and where its first record lies.
+// No invariant: no caller needs what check says of these, and what is proved of every `Checked` would be said of fewer.
 #[derive(Clone, Copy)]
 pub struct Checked<'a> {
     pub(crate) bytes: &'a [u8],

@@ -1,13 +1,17 @@
-ghost use Rattle.std.specs.Prelude.{◌≡◌, ◌+◌, ◌≤◌, length, MatchResult, ◌≢◌};
-ghost use Rattle.codes.specs.declared.refusal.Refusal.TheVariants.{RecordSize, Colour};
+ghost use Rattle.std.specs.Prelude.{◌≡◌, ◌*◌, ◌<◌, ◌≤◌, pos, ◌≤ℤ◌, length, MatchResult, ◌≢◌, EachIndex, slice_index};
+ghost use Rattle.codes.specs.declared.refusal.Refusal.TheVariants.{RecordSize, Colour, Operation, Value};
+ghost use Rattle.std.specs.Int.{w16};
+ghost use Rattle.std.proofs.Common.{to_z};
 ghost use Rattle.metafile.specs.Bytes.{word};
 ghost use Rattle.metafile.specs.Exact.{Exact};
-ghost use Rattle.metafile.specs.Decoding.{PointIs, Coloured, Shows, Breaks};
+ghost use Rattle.metafile.specs.Functions.{function_of};
+ghost use Rattle.metafile.specs.Decoding.{PointIs, Negative, Shows, Breaks};
 
-use crate::bytes::{i16_at, u16_at};
+use crate::bytes::u16_at;
 use crate::frame::Frame;
-use crate::function::*;
+use crate::logical::{LogicalArea, LogicalPoint};
 use crate::record::Record;
+use crate::record_type::{RecordType, UnlistedFunction};
 use codes::{LineMode, Refusal, depends_on_source};
 use pencil::{Brush, Pen};
 
@@ -15,42 +19,12 @@ use pencil::{Brush, Pen};
 pub fn decode<'a>(frame: Frame<'a>) -> Result<Record<'a>, Refusal>
     ensures { MatchResult result (Shows frame.entry.function frame.entry.parameters.now) (Breaks frame.entry.function frame.entry.parameters.now) }
 {
-    let p = frame.parameters;
-    match frame.function {
-        META_EOF => {
-            if !p.is_empty() {
-                return Err(Refusal::RecordSize);
-            }
-            Ok(Record::End)
-        }
-        META_SETWINDOWORG => {
-            let (x, y) = point(p)?;
-            Ok(Record::SetWindowOrg { x, y })
-        }
-        META_SETVIEWPORTORG => {
-            let (x, y) = point(p)?;
-            Ok(Record::SetViewportOrg { x, y })
-        }
-        META_MOVETO => {
-            let (x, y) = point(p)?;
-            Ok(Record::MoveTo { x, y })
-        }
-        META_LINETO => {
-            let (x, y) = point(p)?;
-            Ok(Record::LineTo { x, y })
-        }
-        META_PATBLT => pat_blt(p),
-        META_BITBLT => bit_blt(p),
-        META_INTERSECTCLIPRECT => intersect_clip_rect(p),
-        META_SETROP2 => set_rop2(p),
-        META_SETBKCOLOR => set_bk_color(p),
-        META_CREATEBRUSHINDIRECT => create_brush_indirect(p),
-        META_CREATEPENINDIRECT => create_pen_indirect(p),
-        META_SELECTOBJECT => Ok(Record::SelectObject { index: index(p)? }),
-        META_DELETEOBJECT => Ok(Record::DeleteObject { index: index(p)? }),
-        function => Ok(Record::Unlisted {
+    let parameters = frame.parameters;
+    match RecordType::try_from(frame.function) {
+        Ok(record_type) => listed(record_type, parameters),
+        Err(UnlistedFunction(function)) => Ok(Record::Unlisted {
             function,
-            parameters: p,
+            parameters,
         }),
     }
 }
@@ -60,51 +34,113 @@ pub fn decoding_is_exact()
     ensures { Exact }
 {}
 
-// A point of four bytes, y before x.
-fn point(p: &[u8]) -> Result<(i16, i16), Refusal>
-    ensures { MatchResult result (λ q. PointIs p.now q.0 q.1) (λ e. (e ≡ RecordSize) × (length p.now ≢ 4)) }
+// What the parameters of a listed function ask for.
+fn listed(record_type: RecordType, p: &[u8]) -> Result<Record<'_>, Refusal>
+    ensures { MatchResult result (Shows (function_of record_type) p.now) (Breaks (function_of record_type) p.now) }
 {
-    if p.len() != 4 {
+    match record_type {
+        RecordType::Eof => {
+            words::<0>(p)?;
+            Ok(Record::End)
+        }
+        RecordType::SetWindowOrg => Ok(Record::SetWindowOrg { origin: point(p)? }),
+        RecordType::SetViewportOrg => Ok(Record::SetViewportOrg { origin: point(p)? }),
+        RecordType::MoveTo => Ok(Record::MoveTo { to: point(p)? }),
+        RecordType::LineTo => Ok(Record::LineTo { to: point(p)? }),
+        RecordType::PatBlt => pat_blt(p),
+        RecordType::BitBlt => bit_blt(p),
+        RecordType::IntersectClipRect => intersect_clip_rect(p),
+        RecordType::SetRop2 => set_rop2(p),
+        RecordType::SetBkColor => set_bk_color(p),
+        RecordType::CreateBrushIndirect => create_brush_indirect(p),
+        RecordType::CreatePenIndirect => create_pen_indirect(p),
+        RecordType::SelectObject => Ok(Record::SelectObject { index: index(p)? }),
+        RecordType::DeleteObject => Ok(Record::DeleteObject { index: index(p)? }),
+    }
+}
+
+// Parameters of so many words.
+fn words<const N: usize>(p: &[u8]) -> Result<[u16; N], Refusal>
+    ensures { MatchResult result (λ w. (length p.now ≡ N * 2) × EachIndex w (λ k. slice_index w k ≡ word p.now (k * 2))) (λ e. (e ≡ RecordSize) × (length p.now ≢ N * 2)) }
+{
+    if p.len() % 2 != 0 || p.len() / 2 != N {
         return Err(Refusal::RecordSize);
     }
-    Ok((i16_at(p, 2), i16_at(p, 0)))
+    let mut words = [0; N];
+    for (k, word) in words.iter_mut().enumerate() {
+        *word = u16_at(p, k * 2);
+    }
+    Ok(words)
 }
 
 fn index(p: &[u8]) -> Result<u16, Refusal>
     ensures { MatchResult result (λ i. (length p.now ≡ 2) × (i ≡ word p.now 0)) (λ e. (e ≡ RecordSize) × (length p.now ≢ 2)) }
 {
-    if p.len() != 2 {
-        return Err(Refusal::RecordSize);
-    }
-    Ok(u16_at(p, 0))
+    let [index] = words::<1>(p)?;
+    Ok(index)
 }
 
-// The colour in the four bytes from `at` on.
-fn colour_at(p: &[u8], at: usize) -> Result<u16, Refusal>
-    requires { at + 4 ≤ length p.now }
-    ensures { MatchResult result (λ c. Coloured p.now at × (c ≡ word p.now at)) (λ e. (e ≡ Colour) × (Coloured p.now at → ⊥)) }
+fn point(p: &[u8]) -> Result<LogicalPoint, Refusal>
+    ensures { MatchResult result (PointIs p.now) (λ e. (e ≡ RecordSize) × (length p.now ≢ 4)) }
 {
-    if u16_at(p, at + 2) != 0x0100 {
+    let [y, x] = words::<2>(p)?;
+    Ok(point_of(y, x))
+}
+
+// The point of two words with their signs, y before x.
+fn point_of(y: u16, x: u16) -> LogicalPoint
+    ensures { result ≡ record { x = to_z w16 x; y = to_z w16 y } }
+{
+    LogicalPoint {
+        x: x.cast_signed(),
+        y: y.cast_signed(),
+    }
+}
+
+// The area of four words with their signs, in their order in the file.
+fn area_of(height: u16, width: u16, y: u16, x: u16) -> Result<LogicalArea, Refusal>
+    ensures { MatchResult result (λ a. (a.height ≡ to_z w16 height) × (a.width ≡ to_z w16 width) × (a.at.y ≡ to_z w16 y) × (a.at.x ≡ to_z w16 x) × (pos 0 ≤ℤ a.width) × (pos 0 ≤ℤ a.height)) (λ e. (e ≡ Value) × Negative (to_z w16 width) (to_z w16 height)) }
+{
+    let area = LogicalArea {
+        at: point_of(y, x),
+        width: width.cast_signed(),
+        height: height.cast_signed(),
+    };
+    if area.width < 0 || area.height < 0 {
+        return Err(Refusal::Value);
+    }
+    Ok(area)
+}
+
+// The colour whose number of 32 bits has these halves.
+fn colour(lower: u16, upper: u16) -> Result<u16, Refusal>
+    ensures { MatchResult result (λ c. (upper ≡ 0x0100) × (c ≡ lower)) (λ e. (e ≡ Colour) × (upper ≢ 0x0100)) }
+{
+    if upper != 0x0100 {
         return Err(Refusal::Colour);
     }
-    Ok(u16_at(p, at))
+    Ok(lower)
+}
+
+// The code whose number of 32 bits has this upper half.
+fn code(upper: u16) -> Result<u8, Refusal>
+    ensures { MatchResult result (λ c. (upper < 256) × (c ≡ upper)) (λ e. (e ≡ Operation) × (256 ≤ upper)) }
+{
+    u8::try_from(upper).map_err(|_| Refusal::Operation)
 }
 
 fn set_bk_color(p: &[u8]) -> Result<Record<'_>, Refusal>
-    ensures { MatchResult result (Shows 0x0201 p.now) (Breaks 0x0201 p.now) }
+    ensures { MatchResult result (Shows (function_of RecordType.SetBkColor) p.now) (Breaks (function_of RecordType.SetBkColor) p.now) }
 {
-    if p.len() != 4 {
-        return Err(Refusal::RecordSize);
-    }
-    Ok(Record::SetBkColor {
-        colour: colour_at(p, 0)?,
-    })
+    let [lower, upper] = words::<2>(p)?;
+    let colour = colour(lower, upper)?;
+    Ok(Record::SetBkColor { colour })
 }
 
 fn set_rop2(p: &[u8]) -> Result<Record<'_>, Refusal>
-    ensures { MatchResult result (Shows 0x0104 p.now) (Breaks 0x0104 p.now) }
+    ensures { MatchResult result (Shows (function_of RecordType.SetRop2) p.now) (Breaks (function_of RecordType.SetRop2) p.now) }
 {
-    if p.len() != 2 && p.len() != 4 {
+    if !matches!(p.len(), 2 | 4) {
         return Err(Refusal::RecordSize);
     }
     Ok(Record::SetRop2 {
@@ -113,87 +149,52 @@ fn set_rop2(p: &[u8]) -> Result<Record<'_>, Refusal>
 }
 
 fn create_brush_indirect(p: &[u8]) -> Result<Record<'_>, Refusal>
-    ensures { MatchResult result (Shows 0x02FC p.now) (Breaks 0x02FC p.now) }
+    ensures { MatchResult result (Shows (function_of RecordType.CreateBrushIndirect) p.now) (Breaks (function_of RecordType.CreateBrushIndirect) p.now) }
 {
-    if p.len() != 8 {
-        return Err(Refusal::RecordSize);
-    }
-    let colour = colour_at(p, 2)?;
-    let brush = Brush::new(u16_at(p, 0), colour, u16_at(p, 6))?;
+    let [style, lower, upper, hatch] = words::<4>(p)?;
+    let brush = Brush::new(style, colour(lower, upper)?, hatch)?;
     Ok(Record::CreateBrushIndirect { brush })
 }
 
 fn create_pen_indirect(p: &[u8]) -> Result<Record<'_>, Refusal>
-    ensures { MatchResult result (Shows 0x02FA p.now) (Breaks 0x02FA p.now) }
+    ensures { MatchResult result (Shows (function_of RecordType.CreatePenIndirect) p.now) (Breaks (function_of RecordType.CreatePenIndirect) p.now) }
 {
-    if p.len() != 10 {
-        return Err(Refusal::RecordSize);
-    }
-    let colour = colour_at(p, 6)?;
-    let pen = Pen::new(u16_at(p, 0), i16_at(p, 2), colour)?;
+    let [style, width, _, lower, upper] = words::<5>(p)?;
+    let pen = Pen::new(style, width.cast_signed(), colour(lower, upper)?)?;
     Ok(Record::CreatePenIndirect { pen })
 }
 
 fn intersect_clip_rect(p: &[u8]) -> Result<Record<'_>, Refusal>
-    ensures { MatchResult result (Shows 0x0416 p.now) (Breaks 0x0416 p.now) }
+    ensures { MatchResult result (Shows (function_of RecordType.IntersectClipRect) p.now) (Breaks (function_of RecordType.IntersectClipRect) p.now) }
 {
-    if p.len() != 8 {
-        return Err(Refusal::RecordSize);
-    }
+    let [bottom, right, top, left] = words::<4>(p)?;
     Ok(Record::IntersectClipRect {
-        left: i16_at(p, 6),
-        top: i16_at(p, 4),
-        right: i16_at(p, 2),
-        bottom: i16_at(p, 0),
+        near: point_of(top, left),
+        far: point_of(bottom, right),
     })
 }
 
 fn pat_blt(p: &[u8]) -> Result<Record<'_>, Refusal>
-    ensures { MatchResult result (Shows 0x061D p.now) (Breaks 0x061D p.now) }
+    ensures { MatchResult result (Shows (function_of RecordType.PatBlt) p.now) (Breaks (function_of RecordType.PatBlt) p.now) }
 {
-    if p.len() != 12 {
-        return Err(Refusal::RecordSize);
-    }
-    let upper = u16_at(p, 2);
-    if upper > 0xff || depends_on_source(upper as u8) {
+    let [_, upper, height, width, y, x] = words::<6>(p)?;
+    let code = code(upper)?;
+    if depends_on_source(code) {
         return Err(Refusal::Operation);
     }
-    let height = i16_at(p, 4);
-    let width = i16_at(p, 6);
-    if width < 0 || height < 0 {
-        return Err(Refusal::Value);
-    }
     Ok(Record::PatBlt {
-        code: upper as u8,
-        x: i16_at(p, 10),
-        y: i16_at(p, 8),
-        width,
-        height,
+        code,
+        area: area_of(height, width, y, x)?,
     })
 }
 
 fn bit_blt(p: &[u8]) -> Result<Record<'_>, Refusal>
-    ensures { MatchResult result (Shows 0x0922 p.now) (Breaks 0x0922 p.now) }
+    ensures { MatchResult result (Shows (function_of RecordType.BitBlt) p.now) (Breaks (function_of RecordType.BitBlt) p.now) }
 {
-    if p.len() != 18 {
-        return Err(Refusal::RecordSize);
-    }
-    let upper = u16_at(p, 2);
-    if upper > 0xff {
-        return Err(Refusal::Operation);
-    }
-    let height = i16_at(p, 10);
-    let width = i16_at(p, 12);
-    if width < 0 || height < 0 {
-        return Err(Refusal::Value);
-    }
+    let [_, upper, source_y, source_x, _, height, width, y, x] = words::<9>(p)?;
     Ok(Record::BitBlt {
-        code: upper as u8,
-        x: i16_at(p, 16),
-        y: i16_at(p, 14),
-        width,
-        height,
-        source_x: i16_at(p, 6),
-        source_y: i16_at(p, 4),
+        code: code(upper)?,
+        area: area_of(height, width, y, x)?,
+        source: point_of(source_y, source_x),
     })
 }

@@ -1,4 +1,4 @@
-ghost use Rattle.std.specs.Prelude.{Decides, MatchResult};
+ghost use Rattle.std.specs.Prelude.{◌≡◌, Decides, MatchResult};
 ghost use Rattle.metafile.specs.Header.{Sized, Headed, Accepted, Refused};
 
 use crate::bytes::{u16_at, u32_at};
@@ -10,24 +10,25 @@ use codes::Refusal;
 pub fn check(file: &[u8]) -> Result<Checked<'_>, FileFault>
     ensures { MatchResult result (Accepted file.now) (Refused file.now) }
 {
-    if file.len() < 18 || file.len() > 65536 {
-        return Err(FileFault {
-            cause: Refusal::FileLength,
-            place: 0,
-        });
+    if !(18..=65536).contains(&file.len()) {
+        return Err(refused(Refusal::FileLength));
     }
     if !header_stands(file) {
-        return Err(FileFault {
-            cause: Refusal::Header,
-            place: 0,
-        });
+        return Err(refused(Refusal::Header));
     }
     let end = 2 * u32_at(file, 6) as usize;
     Ok(Checked {
-        bytes: &file[0..end],
+        bytes: &file[..end],
         objects: u16_at(file, 10),
         first: 18,
     })
+}
+
+// A fault of the whole file.
+fn refused(cause: Refusal) -> FileFault
+    ensures { result ≡ record { cause = cause; place = 0 } }
+{
+    FileFault { cause, place: 0 }
 }
 
 fn header_stands(file: &[u8]) -> bool
@@ -38,7 +39,6 @@ fn header_stands(file: &[u8]) -> bool
     matches!(u16_at(file, 0), 1 | 2)
         && u16_at(file, 2) == 9
         && matches!(u16_at(file, 4), 0x0100 | 0x0300)
-        && words >= 12
-        && words <= file.len() / 2
+        && (12..=file.len() / 2).contains(&words)
         && u16_at(file, 10) <= 16
 }

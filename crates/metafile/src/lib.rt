@@ -6,10 +6,10 @@ mod checked;
 mod decoding;
 mod fault;
 mod frame;
-mod function;
 mod header;
-mod names;
+mod logical;
 mod record;
+mod record_type;
 #[cfg(test)]
 mod tests;
 
@@ -18,5 +18,6 @@ pub use decoding::{decode, decoding_is_exact};
 pub use fault::{FileFault, Layer};
 pub use frame::{Frame, frame_at};
 pub use header::check;
-pub use names::record_name;
+pub use logical::{LogicalArea, LogicalPoint};
 pub use record::Record;
+pub use record_type::{RecordType, UnlistedFunction, record_name};

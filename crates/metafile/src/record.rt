@@ -1,3 +1,4 @@
+use crate::logical::{LogicalArea, LogicalPoint};
 use codes::LineMode;
 use pencil::{Brush, Pen};
 
@@ -6,42 +7,29 @@ use pencil::{Brush, Pen};
 pub enum Record<'a> {
     End,
     SetWindowOrg {
-        x: i16,
-        y: i16,
+        origin: LogicalPoint,
     },
     SetViewportOrg {
-        x: i16,
-        y: i16,
+        origin: LogicalPoint,
     },
     MoveTo {
-        x: i16,
-        y: i16,
+        to: LogicalPoint,
     },
     LineTo {
-        x: i16,
-        y: i16,
+        to: LogicalPoint,
     },
     PatBlt {
         code: u8,
-        x: i16,
-        y: i16,
-        width: i16,
-        height: i16,
+        area: LogicalArea,
     },
     BitBlt {
         code: u8,
-        x: i16,
-        y: i16,
-        width: i16,
-        height: i16,
-        source_x: i16,
-        source_y: i16,
+        area: LogicalArea,
+        source: LogicalPoint,
     },
     IntersectClipRect {
-        left: i16,
-        top: i16,
-        right: i16,
-        bottom: i16,
+        near: LogicalPoint,
+        far: LogicalPoint,
     },
     SetRop2 {
         mode: LineMode,

@@ -1,8 +1,9 @@
 use crate::decoding::decode;
 use crate::frame::{Frame, frame_at};
 use crate::header::check;
-use crate::names::record_name;
+use crate::logical::{LogicalArea, LogicalPoint};
 use crate::record::Record;
+use crate::record_type::record_name;
 use codes::Refusal;
 use std::test::Fail;
 
@@ -41,12 +42,12 @@ fn source_copy(rt: HostRuntime) -> Result<(), Fail> {
             record,
             Record::BitBlt {
                 code: 0xCC,
-                x: -1,
-                y: 5,
-                width: 4,
-                height: 3,
-                source_x: 2,
-                source_y: 1,
+                area: LogicalArea {
+                    at: LogicalPoint { x: -1, y: 5 },
+                    width: 4,
+                    height: 3,
+                },
+                source: LogicalPoint { x: 2, y: 1 },
             }
         )
     );
@@ -59,7 +60,14 @@ fn y_before_x(rt: HostRuntime) -> Result<(), Fail> {
         function: 0x0214,
         parameters: &[1, 0, 2, 0],
     })?;
-    assert!(rt; matches!(record, Record::MoveTo { x: 2, y: 1 }));
+    assert!(rt;
+        matches!(
+            record,
+            Record::MoveTo {
+                to: LogicalPoint { x: 2, y: 1 }
+            }
+        )
+    );
     assert_eq!(rt; record_name(0x0214), Some("META_MOVETO"));
     Ok(())
 }

@@ -1,19 +1,19 @@
 -- The playback device context: what records change.
-use Rattle.std.specs.Prelude.{ℕ, pos, Ok, Err, Result}
+use Rattle.std.specs.Prelude.{ℕ, pos, Option, Some, None, Ok, Err, Result}
 use Rattle.codes.specs.declared.mode.LineMode.{LineMode}
 use Rattle.codes.specs.declared.refusal.Refusal.{Refusal}
 use Rattle.codes.specs.declared.refusal.Refusal.TheVariants.{NoObject}
+use Rattle.metafile.specs.declared.logical.LogicalPoint.{LogicalPoint}
 use Rattle.pencil.specs.Pencils.{fresh}
 use Rattle.pencil.specs.declared.brush.Brush.{Brush}
 use Rattle.pencil.specs.declared.pen.Pen.{Pen}
 use Rattle.pencil.specs.declared.pencil_state.Pencil.{Pencil}
 use Rattle.playback.specs.Objects.{blank, slot_at}
 use Rattle.playback.specs.declared.context.DeviceContext.{DeviceContext}
-use Rattle.playback.specs.declared.context.LogicalPoint.{LogicalPoint}
 use Rattle.playback.specs.declared.context.Origins.{Origins}
+use Rattle.playback.specs.declared.objects.Object.{Object}
+use Rattle.playback.specs.declared.objects.Object.TheVariants as object
 use Rattle.playback.specs.declared.objects.ObjectTable.{ObjectTable}
-use Rattle.playback.specs.declared.objects.Slot.{Slot}
-use Rattle.playback.specs.declared.objects.Slot.TheVariants as slot
 
 abbrev pub origin : LogicalPoint
 origin = record { x = pos 0; y = pos 0 }
@@ -49,15 +49,14 @@ abbrev pub with_back : ℕ → Pencil → Pencil
 with_back w c = record { clip = c.clip; pen = c.pen; mode = c.mode; brush = c.brush; back = w }
 
 -- selecting copies an object into the pencil
-abbrev pub taken_up : Slot → Pencil → Pencil
-taken_up slot.Empty p = p
-taken_up (slot.Pen n) p = with_pen n p
-taken_up (slot.Brush b) p = with_brush b p
+abbrev pub taken_up : Option Object → Pencil → Pencil
+taken_up None p = p
+taken_up (Some (object.Pen n)) p = with_pen n p
+taken_up (Some (object.Brush b)) p = with_brush b p
 
-abbrev pub if_there : Slot → Result (Unit {0}) Refusal
-if_there slot.Empty = Err NoObject
-if_there (slot.Pen n) = Ok tt
-if_there (slot.Brush b) = Ok tt
+abbrev pub if_there : Option Object → Result (Unit {0}) Refusal
+if_there None = Err NoObject
+if_there (Some o) = Ok tt
 
 abbrev pub select_in : ℕ → DeviceContext → DeviceContext
 select_in i c = with_pencil (taken_up (slot_at c.objects i) c.pencil) c

@@ -1,9 +1,10 @@
 -- Where logical coordinates lie on the surface.
-use Rattle.std.specs.Prelude.{ℤ, ◌+ℤ◌, ◌-ℤ◌}
+use Rattle.std.specs.Prelude.{◌+ℤ◌, ◌-ℤ◌}
 use Rattle.drawing.specs.declared.shape.Area.{Area}
 use Rattle.drawing.specs.declared.shape.Point.{Point}
 use Rattle.surface.specs.declared.rect.Rect.{Rect}
-use Rattle.playback.specs.declared.context.LogicalPoint.{LogicalPoint}
+use Rattle.metafile.specs.declared.logical.LogicalArea.{LogicalArea}
+use Rattle.metafile.specs.declared.logical.LogicalPoint.{LogicalPoint}
 use Rattle.playback.specs.declared.context.Origins.{Origins}
 
 -- a logical point, less the window origin, plus the viewport origin
@@ -14,8 +15,8 @@ device o p = record {
 }
 
 -- width and height do not move
-abbrev pub device_area : Origins → LogicalPoint → ℤ → ℤ → Area
-device_area o p w h = record { x = (device o p).x; y = (device o p).y; w = w; h = h }
+abbrev pub device_area : Origins → LogicalArea → Area
+device_area o a = record { x = (device o a.at).x; y = (device o a.at).y; w = a.width; h = a.height }
 
 abbrev pub device_rect : Origins → LogicalPoint → LogicalPoint → Rect
 device_rect o p q = record { left = (device o p).x; top = (device o p).y; right = (device o q).x; bottom = (device o q).y }

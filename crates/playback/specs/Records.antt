@@ -8,6 +8,8 @@ use Rattle.pencil.specs.Pencils.{with_clip}
 use Rattle.pencil.specs.Tools.{brushed, inked}
 use Rattle.pencil.specs.declared.pencil_state.Pencil.{Pencil}
 use Rattle.drawing.specs.Tasks.{Task, refuse, draw, line_task, paint_task, copy_task}
+use Rattle.metafile.specs.declared.logical.LogicalArea.{LogicalArea}
+use Rattle.metafile.specs.declared.logical.LogicalPoint.{LogicalPoint}
 use Rattle.metafile.specs.declared.record.Record.{Record}
 use Rattle.metafile.specs.declared.record.Record.TheVariants as RecordOf
 use Rattle.playback.specs.Objects.{put_in, put_answer, removed, remove_answer, slot_at}
@@ -16,8 +18,7 @@ use Rattle.playback.specs.Contexts.{with_position, with_origins, with_pencil, wi
 use Rattle.playback.specs.declared.answer.Answer.{Answer}
 use Rattle.playback.specs.declared.answer.Answer.TheVariants.{Taken, PassedOver, Ended}
 use Rattle.playback.specs.declared.context.DeviceContext.{DeviceContext}
-use Rattle.playback.specs.declared.context.LogicalPoint.{LogicalPoint}
-use Rattle.playback.specs.declared.objects.Slot.TheVariants as slot
+use Rattle.playback.specs.declared.objects.Object.TheVariants as object
 
 -- What a record leaves of the surface: it is as it was, or each open cell of a region took a new word made from the picture before.
 pub data Mark : Type 0 where
@@ -57,30 +58,35 @@ abbrev pub line_to : LogicalPoint → DeviceContext → Outcome
 line_to p c = drawing (line_task c.pencil (device c.origins c.position) (device c.origins p)) (with_position p c) c
 
 -- a paint with the brush
-abbrev pub pat_blt : ℕ → LogicalPoint → ℤ → ℤ → DeviceContext → Outcome
-pat_blt code p w h c = drawing (paint_task c.pencil (device_area c.origins p w h) code (brush_shade c.pencil)) c c
+abbrev pub pat_blt : ℕ → LogicalArea → DeviceContext → Outcome
+pat_blt code area c = drawing (paint_task c.pencil (device_area c.origins area) code (brush_shade c.pencil)) c c
 
 -- a copy with the brush
-abbrev pub bit_blt : ℕ → LogicalPoint → ℤ → ℤ → LogicalPoint → DeviceContext → Outcome
-bit_blt code p w h source c = drawing (copy_task c.pencil (device_area c.origins p w h) (device c.origins source) code (brush_shade c.pencil)) c c
+abbrev pub bit_blt : ℕ → LogicalArea → LogicalPoint → DeviceContext → Outcome
+bit_blt code area source c = drawing (copy_task c.pencil (device_area c.origins area) (device c.origins source) code (brush_shade c.pencil)) c c
 
 abbrev pub plays : Record → DeviceContext → Outcome
 plays RecordOf.End c = record { answer = Ok Ended; context = c; mark = untouched }
-plays (RecordOf.SetWindowOrg x y) c = changed (with_origins (record { window = record { x = x; y = y }; viewport = c.origins.viewport }) c)
-plays (RecordOf.SetViewportOrg x y) c = changed (with_origins (record { window = c.origins.window; viewport = record { x = x; y = y } }) c)
-plays (RecordOf.MoveTo x y) c = changed (with_position (record { x = x; y = y }) c)
-plays (RecordOf.LineTo x y) c = line_to (record { x = x; y = y }) c
-plays (RecordOf.PatBlt code x y w h) c = pat_blt code (record { x = x; y = y }) w h c
-plays (RecordOf.BitBlt code x y w h sx sy) c = bit_blt code (record { x = x; y = y }) w h (record { x = sx; y = sy }) c
-plays (RecordOf.IntersectClipRect l t r b) c =
-    changed (with_pencil (with_clip (overlap c.pencil.clip (device_rect c.origins (record { x = l; y = t }) (record { x = r; y = b }))) c.pencil) c)
+plays (RecordOf.SetWindowOrg origin) c = changed (with_origins (record { window = origin; viewport = c.origins.viewport }) c)
+plays (RecordOf.SetViewportOrg origin) c = changed (with_origins (record { window = c.origins.window; viewport = origin }) c)
+plays (RecordOf.MoveTo to) c = changed (with_position to c)
+plays (RecordOf.LineTo to) c = line_to to c
+plays (RecordOf.PatBlt code area) c = pat_blt code area c
+plays (RecordOf.BitBlt code area source) c = bit_blt code area source c
+plays (RecordOf.IntersectClipRect near far) c =
+    changed (with_pencil (with_clip (overlap c.pencil.clip (device_rect c.origins near far)) c.pencil) c)
 plays (RecordOf.SetRop2 m) c = changed (with_pencil (with_mode m c.pencil) c)
 plays (RecordOf.SetBkColor w) c = changed (with_pencil (with_back w c.pencil) c)
-plays (RecordOf.CreateBrushIndirect b) c = allowed (put_answer c.objects) (with_objects (put_in (slot.Brush b) c.objects) c) c
-plays (RecordOf.CreatePenIndirect p) c = allowed (put_answer c.objects) (with_objects (put_in (slot.Pen p) c.objects) c) c
+plays (RecordOf.CreateBrushIndirect b) c = allowed (put_answer c.objects) (with_objects (put_in (object.Brush b) c.objects) c) c
+plays (RecordOf.CreatePenIndirect p) c = allowed (put_answer c.objects) (with_objects (put_in (object.Pen p) c.objects) c) c
 plays (RecordOf.SelectObject i) c = allowed (select_answer i c) (select_in i c) c
 plays (RecordOf.DeleteObject i) c = allowed (remove_answer (slot_at c.objects i)) (with_objects (removed (slot_at c.objects i) i c.objects) c) c
 plays (RecordOf.Unlisted f rest) c = record { answer = Ok PassedOver; context = c; mark = untouched }
+
+-- a drawing's answer is its record's
+abbrev pub answered : Result (Unit {0}) Refusal → Result Answer Refusal
+answered (Ok u) = Ok Taken
+answered (Err e) = Err e
 
 -- it happened: the answer, the context and the surface are the outcome's
 pub record Happens {S R : Type 0} (means : S → Meaning) (keeps : S → Keep) (rest : S → R) (o : Outcome) (r : Result Answer Refusal) (c : DeviceContext) (s s' : S) : Type 0 where

@@ -4,15 +4,9 @@ ghost use Rattle.playback.specs.Contexts.{initial};
 
 use crate::objects::ObjectTable;
 use drawing::{Area, Point};
+use metafile::{LogicalArea, LogicalPoint};
 use pencil::Pencil;
 use surface::Rect;
-
-// A point in the coordinates of the file.
-#[derive(Clone, Copy)]
-pub struct LogicalPoint {
-    pub x: i16,
-    pub y: i16,
-}
 
 // How logical points become cells: less the window origin, plus the viewport origin.
 #[derive(Clone, Copy)]
@@ -39,16 +33,16 @@ impl Origins {
         }
     }
 
-    // The cells of an area whose corner is a logical point.
-    pub(crate) fn area(self, at: LogicalPoint, width: i16, height: i16) -> Area
-        ensures { result ≡ device_area self at width height }
+    // The cells of a logical area.
+    pub(crate) fn area(self, area: LogicalArea) -> Area
+        ensures { result ≡ device_area self area }
     {
-        let corner = self.device(at);
+        let corner = self.device(area.at);
         Area {
             x: corner.x,
             y: corner.y,
-            w: i32::from(width),
-            h: i32::from(height),
+            w: i32::from(area.width),
+            h: i32::from(area.height),
         }
     }
 

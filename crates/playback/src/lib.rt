@@ -7,5 +7,5 @@ mod objects;
 mod playing;
 
 pub use answer::Answer;
-pub use context::{DeviceContext, LogicalPoint, Origins};
-pub use objects::{ObjectTable, Slot};
+pub use context::{DeviceContext, Origins};
+pub use objects::{Object, ObjectTable};

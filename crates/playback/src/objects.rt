@@ -1,32 +1,21 @@
-ghost use Rattle.std.specs.Prelude.{◌≡◌, ◌≤◌};
-ghost use Rattle.playback.specs.Objects.{size, slot_at, vacant, lowest, blank, put_in, put_answer, removed, remove_answer};
+ghost use Rattle.std.specs.Prelude.{◌≡◌, take};
+ghost use Rattle.playback.specs.Objects.{size, slot_at, free, blank, put_in, put_answer, removed, remove_answer};
 
 use codes::Refusal;
 use pencil::{Brush, Pen};
 
-// A place of the object table.
+// What a record makes.
 #[derive(Clone, Copy)]
-pub enum Slot {
-    Empty,
-    Pen { pen: Pen },
-    Brush { brush: Brush },
-}
-
-impl Slot {
-    fn is_vacant(self) -> bool
-        ensures { result ≡ vacant self }
-    {
-        match self {
-            Slot::Empty => true,
-            _ => false,
-        }
-    }
+pub enum Object {
+    Pen(Pen),
+    Brush(Brush),
 }
 
 // The objects that records make: as many slots as the file's header states, which are at most sixteen.
+// A fixed array, since a player has no heap; no vector of a fixed capacity, since slots fall empty anywhere and the table is copied.
 #[derive(Clone, Copy)]
 pub struct ObjectTable {
-    pub slots: [Slot; 16],
+    pub slots: [Option<Object>; 16],
     pub count: usize,
 }
 
@@ -36,54 +25,39 @@ impl ObjectTable {
         ensures { result ≡ blank count }
     {
         ObjectTable {
-            slots: [Slot::Empty; 16],
+            slots: [None; 16],
             count,
         }
     }
 
-    // How many slots there are.
-    fn size(&self) -> usize
-        ensures value { result ≡ size self.now }
-        ensures few { result ≤ 16 }
+    // The slots that there are.
+    fn slots(&self) -> &[Option<Object>]
+        ensures { result.now ≡ take (size self.now) self.now.slots }
     {
-        self.count.min(16)
+        &self.slots[..self.count.min(16)]
     }
 
     // What stands at an index; nothing stands past the table.
-    pub(crate) fn slot(&self, index: u16) -> Slot
+    pub(crate) fn slot(&self, index: u16) -> Option<Object>
         ensures { result ≡ slot_at self.now index }
     {
-        let index = usize::from(index);
-        if index < self.size() {
-            self.slots[index]
-        } else {
-            Slot::Empty
-        }
+        self.slots().get(usize::from(index)).copied().flatten()
     }
 
-    // The lowest empty slot, or the table's end.
-    fn free(&self) -> usize
-        ensures { result ≡ lowest self.now.slots (size self.now) }
+    // The lowest empty slot.
+    fn free(&self) -> Option<usize>
+        ensures { result ≡ free self.now }
     {
-        let size = self.size();
-        for i in 0..size {
-            if self.slots[i].is_vacant() {
-                return i;
-            }
-        }
-        size
+        self.slots().iter().position(Option::is_none)
     }
 
     // Puts an object into the lowest empty slot.
-    pub(crate) fn put(&mut self, slot: Slot) -> Result<(), Refusal>
+    pub(crate) fn put(&mut self, object: Object) -> Result<(), Refusal>
         ensures answer { result ≡ put_answer self.old }
-        ensures table { self.new ≡ put_in slot self.old }
+        ensures table { self.new ≡ put_in object self.old }
     {
-        let free = self.free();
-        if free >= self.size() {
-            return Err(Refusal::TableFull);
-        }
-        self.slots[free] = slot;
+        let free = self.free().ok_or(Refusal::TableFull)?;
+        self.slots[free] = Some(object);
         Ok(())
     }
 
@@ -92,12 +66,8 @@ impl ObjectTable {
         ensures answer { result ≡ remove_answer (slot_at self.old index) }
         ensures table { self.new ≡ removed (slot_at self.old index) index self.old }
     {
-        match self.slot(index) {
-            Slot::Empty => Err(Refusal::NoObject),
-            _ => {
-                self.slots[usize::from(index)] = Slot::Empty;
-                Ok(())
-            }
-        }
+        self.slot(index).ok_or(Refusal::NoObject)?;
+        self.slots[usize::from(index)] = None;
+        Ok(())
     }
 }

@@ -31,13 +31,13 @@ same_brush (brush.Hatched s c) = refl
 -- the view that leaves colours as they are
 pub same_record : (r : Record) → seen_record (λ w. w) r ≡ r
 same_record of.End = refl
-same_record (of.SetWindowOrg x y) = refl
-same_record (of.SetViewportOrg x y) = refl
-same_record (of.MoveTo x y) = refl
-same_record (of.LineTo x y) = refl
-same_record (of.PatBlt code x y w h) = refl
-same_record (of.BitBlt code x y w h sx sy) = refl
-same_record (of.IntersectClipRect l t r b) = refl
+same_record (of.SetWindowOrg p) = refl
+same_record (of.SetViewportOrg p) = refl
+same_record (of.MoveTo p) = refl
+same_record (of.LineTo p) = refl
+same_record (of.PatBlt code area) = refl
+same_record (of.BitBlt code area source) = refl
+same_record (of.IntersectClipRect near far) = refl
 same_record (of.SetRop2 m) = refl
 same_record (of.SetBkColor c) = refl
 same_record (of.CreateBrushIndirect b) = ap of.CreateBrushIndirect (same_brush b)

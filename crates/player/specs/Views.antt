@@ -18,13 +18,13 @@ seen_brush view (brush.Hatched s c) = brush.Hatched s (view c)
 -- a record with its colours seen so
 abbrev pub seen_record : (ℕ → ℕ) → Record → Record
 seen_record view of.End = of.End
-seen_record view (of.SetWindowOrg x y) = of.SetWindowOrg x y
-seen_record view (of.SetViewportOrg x y) = of.SetViewportOrg x y
-seen_record view (of.MoveTo x y) = of.MoveTo x y
-seen_record view (of.LineTo x y) = of.LineTo x y
-seen_record view (of.PatBlt code x y w h) = of.PatBlt code x y w h
-seen_record view (of.BitBlt code x y w h sx sy) = of.BitBlt code x y w h sx sy
-seen_record view (of.IntersectClipRect l t r b) = of.IntersectClipRect l t r b
+seen_record view (of.SetWindowOrg p) = of.SetWindowOrg p
+seen_record view (of.SetViewportOrg p) = of.SetViewportOrg p
+seen_record view (of.MoveTo p) = of.MoveTo p
+seen_record view (of.LineTo p) = of.LineTo p
+seen_record view (of.PatBlt code area) = of.PatBlt code area
+seen_record view (of.BitBlt code area source) = of.BitBlt code area source
+seen_record view (of.IntersectClipRect near far) = of.IntersectClipRect near far
 seen_record view (of.SetRop2 m) = of.SetRop2 m
 seen_record view (of.SetBkColor c) = of.SetBkColor (view c)
 seen_record view (of.CreateBrushIndirect b) = of.CreateBrushIndirect (seen_brush view b)

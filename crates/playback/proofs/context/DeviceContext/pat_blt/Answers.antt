@@ -1,17 +1,5 @@
-use Rattle.std.proofs.lemmas.Result.{err_from_is_err_and}
-use Rattle.std.proofs.lemmas.Int.{to_z-of_z}
-use Rattle.playback.proofs.Performing.{refused_happens, done_happens}
+use Rattle.playback.proofs.Performing.{kept}
 use Rattle.playback.proofs.context.DeviceContext.pat_blt.Goals as goal
 
-pub returns-in_err-paint : goal.returns-in_err-paint
-returns-in_err-paint g c =
-    let fw = c.ranges.width in
-    let fh = c.ranges.height in
-    let p = err_from_is_err_and c.from_residual.result c.from_residual.ensures.1 in
-    rw (p.1, p.2) (refused_happens _ _ _ _ _ _ _ _ _ (simp (simp to_z-of_z at c.area-area.ensures, c.ink-ink.ensures) at c.in_err-paint.ensures))
-
 pub returns : goal.returns
-returns g c =
-    let fw = c.ranges.width in
-    let fh = c.ranges.height in
-    done_happens _ _ _ _ _ _ _ _ _ (simp (simp to_z-of_z at c.area-area.ensures, c.ink-ink.ensures) at c.in_ok-paint.ensures)
+returns g c = kept _ _ _ _ _ _ _ _ (simp (c.area-area.ensures, c.ink-ink.ensures) at c.paint.ensures)
