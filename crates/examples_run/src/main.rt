@@ -21,10 +21,7 @@ fn main(rt: HostRuntime) -> io::Result<()> {
     print_bytes(&rt, "line to (4, 2)", &worked.tied)?;
     print_bytes(&rt, "painted", &worked.painted.memory)?;
     if let Some(rect) = worked.painted.bounds {
-        println!(rt;
-            "bounds: {} {} {} {}",
-            rect.left, rect.top, rect.right, rect.bottom
-        )?;
+        println!(rt; "bounds: {rect}")?;
     }
     print_bytes(&rt, "PBM rows", &worked.painted.rows)?;
     print_bytes(&rt, "copied right", &worked.copied_right)?;

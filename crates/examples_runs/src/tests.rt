@@ -1,6 +1,6 @@
 use metafile::{Record, check};
 use playback::Answer;
-use player::{Question, StepFault, play, start};
+use player::{StepFault, play, start};
 use raster::Packed;
 use std::test::Fail;
 use surface::Surface;
@@ -28,18 +28,12 @@ const END: &[u8] = b"\x03\0\0\0\0\0";
 
 // The number of a fault, or 0.
 fn number_of(answer: Result<Answer, StepFault>) -> u8 {
-    match answer {
-        Ok(_) => 0,
-        Err(fault) => fault.number(),
-    }
+    answer.err().map_or(0, StepFault::number)
 }
 
 // The offset that a fault tells, or 0.
 fn place_of(answer: Result<Answer, StepFault>) -> usize {
-    match answer {
-        Ok(_) => 0,
-        Err(fault) => fault.place(),
-    }
+    answer.err().map_or(0, StepFault::place)
 }
 
 #[test]
@@ -47,9 +41,9 @@ fn empty_file(rt: HostRuntime) -> Result<(), Fail> {
     let mut memory = [0; 1];
     let mut surface = Packed::new(&mut memory, 8, 1);
     let mut run = start(check(EMPTY)?);
-    assert!(rt; matches!(run.question(), Ok(Question::Record(Record::End))));
+    assert!(rt; matches!(run.question(), Ok(Some(Record::End))));
     assert!(rt; matches!(run.step(&mut surface), Ok(Answer::Ended)));
-    assert!(rt; matches!(run.question(), Ok(Question::Ended)));
+    assert!(rt; matches!(run.question(), Ok(None)));
     assert!(rt; matches!(run.step(&mut surface), Ok(Answer::Ended)));
     assert_eq!(rt; run.progress().place, 18);
     let counts = run.finish();

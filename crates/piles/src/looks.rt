@@ -3,17 +3,10 @@ use surface::{Rect, Surface};
 
 // Whether two pictures of one size agree in the bits of a mask.
 pub(crate) fn plane_agrees<S: Surface, T: Surface>(a: &S, b: &T, mask: u16) -> bool {
-    if a.width() != b.width() || a.height() != b.height() {
-        return false;
-    }
-    for y in 0..i32::from(a.height()) {
-        for x in 0..i32::from(a.width()) {
-            if a.word(x, y) & mask != b.word(x, y) & mask {
-                return false;
-            }
-        }
-    }
-    true
+    let agree = |x, y| a.word(x, y) & mask == b.word(x, y) & mask;
+    a.width() == b.width()
+        && a.height() == b.height()
+        && (0..i32::from(a.height())).all(|y| (0..i32::from(a.width())).all(|x| agree(x, y)))
 }
 
 // The rows as text: # where a bit of the mask is set.
@@ -45,13 +38,7 @@ pub(crate) fn say(rt: &HostRuntime, what: &str, so: bool) -> Result<(), Trouble>
 pub(crate) fn print_bounds(rt: &HostRuntime, bounds: Option<Rect>) -> Result<(), Trouble> {
     match bounds {
         None => println!(rt; "bounds none")?,
-        Some(rect) => {
-            let left = rect.left;
-            let top = rect.top;
-            let right = rect.right;
-            let bottom = rect.bottom;
-            println!(rt; "bounds {left} {top} {right} {bottom}")?
-        }
+        Some(rect) => println!(rt; "bounds {rect}")?,
     }
     Ok(())
 }

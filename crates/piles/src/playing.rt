@@ -21,11 +21,7 @@ pub(crate) fn samples(rt: &HostRuntime) -> Result<Vec<u8>, Trouble> {
 
 // The two samples.
 pub(crate) fn parted(file: &[u8]) -> (&[u8], &[u8]) {
-    if FIRST <= file.len() {
-        (&file[0..FIRST], &file[FIRST..])
-    } else {
-        (file, file)
-    }
+    file.split_at_checked(FIRST).unwrap_or((file, file))
 }
 
 // Plays a sample of which no record is refused or passed over.
@@ -34,10 +30,7 @@ pub(crate) fn draw<S: Surface>(
     surface: &mut S,
     heap: Global,
 ) -> Result<(), Trouble> {
-    let checked = match check(sample) {
-        Ok(checked) => checked,
-        Err(_) => return Err(Trouble::Refused),
-    };
+    let checked = check(sample).map_err(|_| Trouble::Refused)?;
     let mut run = start(checked);
     let _ = play(&mut run, surface, heap)?;
     let counts = run.finish();

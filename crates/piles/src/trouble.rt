@@ -1,22 +1,14 @@
 use std::alloc::AllocError;
 use std::io;
+use thiserror::Error;
 
 // Why the comparison could not be made.
-#[derive(Clone, Copy, Debug)]
+#[derive(Debug, Drop, Error)]
 pub(crate) enum Trouble {
-    Memory,
-    InOrOut,
+    #[error("out of memory")]
+    Memory(#[from] AllocError),
+    #[error("reading or writing failed")]
+    InOrOut(#[from] io::Error),
+    #[error("a record of a sample is refused or passed over, or the sample is")]
     Refused,
-}
-
-impl From<io::Error> for Trouble {
-    fn from(_error: io::Error) -> Trouble {
-        Trouble::InOrOut
-    }
-}
-
-impl From<AllocError> for Trouble {
-    fn from(_error: AllocError) -> Trouble {
-        Trouble::Memory
-    }
 }

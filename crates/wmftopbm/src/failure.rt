@@ -1,43 +1,18 @@
-use crate::report::{USAGE, cause};
-use metafile::FileFault;
+use crate::report::USAGE;
+use player::StepFault;
 use std::alloc::AllocError;
 use std::io;
+use thiserror::Error;
 
-// Why no picture was written.
-#[derive(Clone, Copy)]
+// Why no picture was written, in the words that standard error gets.
+#[derive(Debug, Drop, Error)]
 pub(crate) enum Failure {
+    #[error("wmftopbm: unknown argument\n{}", USAGE)]
     Usage,
-    Refused(FileFault),
-    Memory,
-    InOrOut,
-}
-
-impl From<io::Error> for Failure {
-    fn from(_error: io::Error) -> Failure {
-        Failure::InOrOut
-    }
-}
-
-impl From<AllocError> for Failure {
-    fn from(_error: AllocError) -> Failure {
-        Failure::Memory
-    }
-}
-
-impl Failure {
-    // Says it on standard error, as far as that can be written.
-    pub(crate) fn tell(self, rt: &HostRuntime) {
-        let told = match self {
-            Failure::Usage => eprint!(rt; "wmftopbm: unknown argument\n{USAGE}"),
-            Failure::Refused(fault) => {
-                let number = fault.number();
-                let place = fault.place;
-                let text = cause(fault.cause);
-                eprintln!(rt; "refused {number} at byte {place} (file): {text}")
-            }
-            Failure::Memory => eprintln!(rt; "wmftopbm: out of memory"),
-            Failure::InOrOut => eprintln!(rt; "wmftopbm: reading or writing failed"),
-        };
-        let _ = told;
-    }
+    #[error("refused {0}")]
+    Refused(#[from] StepFault),
+    #[error("wmftopbm: out of memory")]
+    Memory(#[from] AllocError),
+    #[error("wmftopbm: reading or writing failed")]
+    InOrOut(#[from] io::Error),
 }

@@ -11,7 +11,7 @@ use failure::Failure;
 use metafile::check;
 use options::Options;
 use picture::{BYTES, HEIGHT, WIDTH, write_picture};
-use player::start;
+use player::{StepFault, start};
 use raster::Packed;
 use report::{USAGE, tell};
 use std::io;
@@ -30,10 +30,7 @@ fn read_file(rt: &HostRuntime) -> io::Result<Vec<u8>> {
 fn convert(rt: &HostRuntime, trace: bool) -> Result<(), Failure> {
     let heap = rt.alloc();
     let file = read_file(rt)?;
-    let checked = match check(&file) {
-        Ok(checked) => checked,
-        Err(fault) => return Err(Failure::Refused(fault)),
-    };
+    let checked = check(&file).map_err(StepFault::from)?;
     let mut memory = vec![in heap; 0u8; BYTES]?;
     let mut surface = Packed::new(&mut memory, WIDTH, HEIGHT);
     let mut run = start(checked);
@@ -48,10 +45,9 @@ fn run(rt: &HostRuntime) -> Result<(), Failure> {
     match Options::parse(rt)? {
         Options::Play { trace } => convert(rt, trace),
         Options::Help => {
-            rt.print(USAGE)?;
+            println!(rt; "{USAGE}")?;
             Ok(())
         }
-        Options::Unknown => Err(Failure::Usage),
     }
 }
 
@@ -59,7 +55,8 @@ fn main(rt: HostRuntime) -> ExitCode {
     match run(&rt) {
         Ok(()) => ExitCode::SUCCESS,
         Err(failure) => {
-            failure.tell(&rt);
+            // Where standard error can't be written either, the status alone tells.
+            let _ = eprintln!(rt; "{failure}");
             ExitCode::FAILURE
         }
     }
