@@ -26,7 +26,8 @@ pub fn depends_on_source(code: u8) -> bool
     ((code >> 2) ^ code) & 0x33 != 0
 }
 
-// Whether a picture's bit can change what the raster operation gives.
+// Whether a picture's bit can change what the raster operation gives. Beside the one above: a shared function would state two more
+// parameters, the step between two rows and the rows, in a contract longer than both lines.
 pub fn depends_on_picture(code: u8) -> bool
     ensures { result ≡ pictured code }
 {

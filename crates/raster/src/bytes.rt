@@ -1,7 +1,7 @@
 ghost use Rattle.raster.specs.Bytewise.{bytewise, bytewise_needs, bytes_spare, BytesDrawn};
 ghost use Rattle.raster.specs.BytewiseLaws.{bytewise-lawful};
 
-use crate::layout::Layout;
+use crate::layout::{Layout, Storage};
 use crate::raster::Raster;
 use crate::size::Size;
 use std::ops::Range;
@@ -12,7 +12,7 @@ pub struct OneByte;
 // A surface of depth 8 over a caller's memory.
 pub type Bytes<'a> = Raster<'a, OneByte>;
 
-impl Layout for OneByte {
+impl Storage for OneByte {
     const DEPTH: u8 = 8;
 
     ghost DEPTH = { 8 };
@@ -41,3 +41,5 @@ impl Layout for OneByte {
         memory[start + columns.start..start + columns.end].fill((v % 256) as u8);
     }
 }
+
+impl Layout for OneByte {}

@@ -5,8 +5,8 @@ ghost use Rattle.raster.specs.Lawful.{Lawful};
 use crate::size::Size;
 use std::ops::Range;
 
-// How the cells of a picture lie in a memory.
-pub trait Layout {
+// How the cells of a picture lie in a memory: where a raster finds its bits.
+pub trait Storage {
     // The bits of a cell.
     const DEPTH: u8;
 
@@ -55,3 +55,7 @@ pub trait Layout {
         requires row { y < size.height }
         ensures { Redraws size.width size.height memory.old (strip (pos columns.start) (pos y) (columns.end - columns.start)) v memory.new };
 }
+
+// A layout of a raster. What it does to a memory stands in Storage, which only this crate can name, so that no caller has to know
+// that the memory is long enough.
+pub trait Layout: Storage {}

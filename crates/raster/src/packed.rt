@@ -3,7 +3,7 @@ ghost use Rattle.raster.specs.PackedLaws.{packed-lawful};
 ghost use Rattle.raster.specs.Packing.{stride, packed, packed_needs, packed_spare, PackedDrawn};
 
 use crate::bits::{bit_at, fill_row, paint_in_byte};
-use crate::layout::Layout;
+use crate::layout::{Layout, Storage};
 use crate::raster::Raster;
 use crate::size::Size;
 use std::ops::Range;
@@ -21,7 +21,7 @@ pub(crate) fn pitch(width: u16) -> usize
     usize::from(width).div_ceil(8)
 }
 
-impl Layout for OneBit {
+impl Storage for OneBit {
     const DEPTH: u8 = 1;
 
     ghost DEPTH = { 1 };
@@ -57,3 +57,5 @@ impl Layout for OneBit {
         fill_row(memory, y * row, row, columns, v % 2 == 1);
     }
 }
+
+impl Layout for OneBit {}

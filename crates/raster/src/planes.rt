@@ -3,7 +3,7 @@ ghost use Rattle.raster.specs.PlanarLaws.{planar-lawful};
 ghost use Rattle.raster.specs.Planar.{four, planar, planar_needs, planes_spare, PlanesDrawn};
 
 use crate::bits::{bit_at, fill_row};
-use crate::layout::Layout;
+use crate::layout::{Layout, Storage};
 use crate::packed::{OneBit, pitch};
 use crate::raster::Raster;
 use crate::size::Size;
@@ -29,7 +29,7 @@ fn four_bits(memory: &[u8], plane: usize, i: usize) -> u16
         + 8 * bit_at(memory, 3 * bits + i)
 }
 
-impl Layout for FourPlanes {
+impl Storage for FourPlanes {
     const DEPTH: u8 = 4;
 
     ghost DEPTH = { 4 };
@@ -69,3 +69,5 @@ impl Layout for FourPlanes {
         }
     }
 }
+
+impl Layout for FourPlanes {}

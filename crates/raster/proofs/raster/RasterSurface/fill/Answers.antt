@@ -9,7 +9,7 @@ use Rattle.raster.proofs.raster.RasterSurface.fill.Goals as goal
 
 pub returns-in-Some : goal.returns-in-Some
 returns-in-Some g c =
-    let laws = g.L.Layout.lawful in
+    let laws = g.L.Storage.lawful in
     let w = c.args.self.now.size.width in
     let h = c.args.self.now.size.height in
     let m = c.args.self.now.memory.now in
@@ -21,12 +21,12 @@ returns-in-Some g c =
     = simp to_z-of_z at c.clip-columns.ensures.same in
     let e = redraws_alike laws w h m c.args.self.now.roomy c.fill.new.memory _ (strip x (pos c.in-Some.y) c.args.n) c.args.v
     (clipped w h x c.args.n _ _ c.in-Some.y c.clip-columns.ensures.order same) c.fill.ensures in
-    let d = subst (λ z. g.L.Layout.Redraws w h m (strip x z c.args.n) c.args.v c.fill.new.memory) (sym y) e in
+    let d = subst (λ z. g.L.Storage.Redraws w h m (strip x z c.args.n) c.args.v c.fill.new.memory) (sym y) e in
     record { picture = laws.drawn w h m _ _ c.args.v d; kept = still; rest = rest_stays laws w h m c.args.self.now.roomy _ _ c.args.v _ d; memory = d; lender = refl }
 
 pub returns-in_default : goal.returns-in_default
 returns-in_default g c =
-    let laws = g.L.Layout.lawful in
+    let laws = g.L.Storage.lawful in
     let w = c.args.self.now.size.width in
     let h = c.args.self.now.size.height in
     let m = c.args.self.now.memory.now in

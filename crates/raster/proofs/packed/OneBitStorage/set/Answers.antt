@@ -3,7 +3,7 @@ use Rattle.std.proofs.lemmas.Bool.Decides.{nat_tests}
 use Rattle.raster.specs.Packing.{stride}
 use Rattle.raster.proofs.Painting.{painted-at}
 use Rattle.raster.proofs.PackedPictures.{packed_cell}
-use Rattle.raster.proofs.packed.OneBitLayout.set.Goals as goal
+use Rattle.raster.proofs.packed.OneBitStorage.set.Goals as goal
 
 pub returns : goal.returns
 returns c =

@@ -1,6 +1,6 @@
 use Rattle.std.proofs.Common.{◌+◌, ◌*◌}
 use Rattle.raster.specs.Planar.{Planed}
-use Rattle.raster.proofs.planes.FourPlanesLayout.fill.Given as goal
+use Rattle.raster.proofs.planes.FourPlanesStorage.fill.Given as goal
 
 abbrev pub invariant-loop-k : goal.invariant-loop-k
 invariant-loop-k l =

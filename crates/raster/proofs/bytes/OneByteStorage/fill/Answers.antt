@@ -1,6 +1,6 @@
 use Rattle.std.proofs.Common.{◌≡◌, ◌*◌, ap}
 use Rattle.raster.proofs.BytePictures.{bytewise_row}
-use Rattle.raster.proofs.bytes.OneByteLayout.fill.Goals as goal
+use Rattle.raster.proofs.bytes.OneByteStorage.fill.Goals as goal
 
 pub returns : goal.returns
 returns c =

@@ -2,7 +2,7 @@ use Rattle.std.proofs.Common.{◌≡◌, ◌*◌, ◌%◌, cond, eqb, ap, arith}
 use Rattle.std.proofs.lemmas.Bool.Decides.{nat_tests}
 use Rattle.raster.specs.Packing.{stride}
 use Rattle.raster.proofs.PackedPictures.{packed_row}
-use Rattle.raster.proofs.packed.OneBitLayout.fill.Goals as goal
+use Rattle.raster.proofs.packed.OneBitStorage.fill.Goals as goal
 
 pub returns : goal.returns
 returns c =

@@ -4,7 +4,7 @@ use Rattle.raster.specs.Packing.{stride}
 use Rattle.raster.proofs.Layouts.{row_end}
 use Rattle.raster.proofs.Painting.{painted-at}
 use Rattle.raster.proofs.PlanePictures.{planed_more, planar_row}
-use Rattle.raster.proofs.planes.FourPlanesLayout.fill.Goals as goal
+use Rattle.raster.proofs.planes.FourPlanesStorage.fill.Goals as goal
 
 pub returns : goal.returns
 returns c =
