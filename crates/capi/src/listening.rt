@@ -1,9 +1,8 @@
 ghost use Rattle.std.specs.Prelude.{◌≡◌};
-ghost use Rattle.player.specs.Playing.{final};
 ghost use Rattle.capi.specs.Listening.{record_fault, Listened};
 
 use playback::Answer;
-use player::{RecordFault, Run, StepFault};
+use player::{RecordFault, Run, StepFault, is_final};
 use surface::Surface;
 
 // What is heard of a run: its last answer, and the first record refused.
@@ -11,17 +10,6 @@ use surface::Surface;
 pub struct Heard {
     pub last: Result<Answer, StepFault>,
     pub first: Option<RecordFault>,
-}
-
-// Whether no record can follow an answer.
-fn is_final(answer: Result<Answer, StepFault>) -> bool
-    ensures { result ≡ final answer }
-{
-    match answer {
-        Ok(Answer::Ended) => true,
-        Err(StepFault::File(_)) => true,
-        _ => false,
-    }
 }
 
 // The fault of a record that an answer tells.
