@@ -7,7 +7,7 @@ use Rattle.surface.specs.Meaning.{Meaning}
 use Rattle.surface.specs.Rects.{Keep}
 use Rattle.metafile.specs.Header.{Accepted}
 use Rattle.metafile.specs.declared.checked.Checked.{Checked}
-use Rattle.raster.specs.Layout.{Untouched, untouched}
+use Rattle.raster.specs.Layout.{Untouched, rest_of}
 use Rattle.player.specs.Playing.{Plays}
 use Rattle.player.specs.Runs.{begun}
 use Rattle.capi.specs.Playing.{report_of, Reported, Onto, Played}
@@ -30,11 +30,11 @@ onto_played shows spare fit u file m m' r c e a o = subst (λ f. Played shows sp
 -- What was played on a raster, by its memory: p and q are the raster before and after, and the names that end so are theirs.
 pub raster_onto : {S : Type 0} {means : S → Meaning} {keeps : S → Keep} {rest : S → Untouched} (shows : ℕ → ℕ → List ℕ → Meaning) (spare : ℕ → ℕ → List ℕ → ℕ → ℕ)
     (w h wp hp wq hq : ℕ) (m mp mq : List ℕ) (lp lq : GName) {p q : S} {file : List ℕ} {place slots : ℕ} {r : Report}
-    → means p ≡ shows wp hp mp → means q ≡ shows wq hq mq → rest p ≡ untouched spare wp hp mp lp → rest q ≡ untouched spare wq hq mq lq
+    → means p ≡ shows wp hp mp → means q ≡ shows wq hq mq → rest p ≡ rest_of spare wp hp mp lp → rest q ≡ rest_of spare wq hq mq lq
     → wp ≡ w → hp ≡ h → mp ≡ m → Reported means keeps rest file place slots p r q → Onto (shows w h) (spare w h) file place slots m r mq
 raster_onto {means = means} shows spare w h wp hp wq hq m mp mq lp lq {q = q} {file = file} {place = place} {slots = slots} sp sq rp rq ew eh em d =
     let out = d.listened.out in
-    let still : untouched spare wq hq mq lq ≡ untouched spare wp hp mp lp = sym rq ∙ out.still ∙ rp in
+    let still : rest_of spare wq hq mq lq ≡ rest_of spare wp hp mp lp = sym rq ∙ out.still ∙ rp in
     let qw : wq ≡ w = ap (λ u. u.width) still ∙ ew in
     let qh : hq ≡ h = ap (λ u. u.height) still ∙ eh in
     let from = sp ∙ (λ i. shows (ew i) (eh i) (em i)) in

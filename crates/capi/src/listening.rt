@@ -1,4 +1,5 @@
 ghost use Rattle.std.specs.Prelude.{◌≡◌};
+ghost use Rattle.std.specs.Option.{option_or};
 ghost use Rattle.capi.specs.Listening.{record_fault, Listened};
 
 use playback::Answer;
@@ -12,14 +13,15 @@ pub struct Heard {
     pub first: Option<RecordFault>,
 }
 
-// The fault of a record that an answer tells.
-fn fault_of(answer: Result<Answer, StepFault>) -> Option<RecordFault>
-    ensures { result ≡ record_fault answer }
+// What was refused first, once an answer came.
+fn noted(first: Option<RecordFault>, answer: Result<Answer, StepFault>) -> Option<RecordFault>
+    ensures { result ≡ option_or first (record_fault answer) }
 {
-    match answer {
+    let refused = match answer {
         Err(StepFault::Record(fault)) => Some(fault),
         _ => None,
-    }
+    };
+    first.or(refused)
 }
 
 // Steps until the run has ended or a file fault comes. Nothing allocates.
@@ -30,7 +32,7 @@ pub fn play_listening<S: Surface>(run: &mut Run<'_>, surface: &mut S) -> Heard
     let mut first = None;
     'records: loop {
         let answer = run.step(surface);
-        first = first.or(fault_of(answer));
+        first = noted(first, answer);
         if is_final(answer) {
             return Heard {
                 last: answer,

@@ -3,7 +3,7 @@ use Rattle.std.proofs.Common.{◌≡◌, ℕ, ◌≤◌, Bool, false, ◌&&◌, 
 use Rattle.std.specs.Borrow.{GName}
 use Rattle.surface.specs.Meaning.{Meaning, inside}
 use Rattle.raster.specs.Lawful.{Lawful}
-use Rattle.raster.specs.Layout.{untouched}
+use Rattle.raster.specs.Layout.{rest_of}
 
 module _ {depth : ℕ} {needed : ℕ → ℕ → ℕ} {shows : ℕ → ℕ → List ℕ → Meaning} {spare : ℕ → ℕ → List ℕ → ℕ → ℕ}
     {Redraws : ℕ → ℕ → List ℕ → (ℤ → ℤ → Bool) → ℕ → List ℕ → Type 0} (laws : Lawful depth needed shows spare Redraws)
@@ -17,6 +17,6 @@ module _ {depth : ℕ} {needed : ℕ → ℕ → ℕ} {shows : ℕ → ℕ → L
   pub redraws_none : (s : ℤ → ℤ → Bool) (v : ℕ) → ((x y : ℤ) → false ≡ (s x y && inside w h x y)) → Redraws w h m s v m
   redraws_none s v same = redraws_alike m (λ _ _. false) s v same (laws.none w h m v)
 
-  pub rest_stays : (n : List ℕ) (region : ℤ → ℤ → Bool) (v : ℕ) (l : GName) → Redraws w h m region v n → untouched spare w h n l ≡ untouched spare w h m l
+  pub rest_stays : (n : List ℕ) (region : ℤ → ℤ → Bool) (v : ℕ) (l : GName) → Redraws w h m region v n → rest_of spare w h n l ≡ rest_of spare w h m l
   rest_stays n region v l d =
       λ i. record { width = w; height = h; bytes = laws.long w h m n region v d i; lender = l; spare = laws.spared w h m n region v d i }

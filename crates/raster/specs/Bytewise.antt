@@ -2,7 +2,7 @@
 use Rattle.std.specs.Prelude.{◌≡◌, ℕ, ◌*◌, ◌%◌, Bool, List, length, ℤ, slice_index}
 use Rattle.std.specs.Borrow.{GName}
 use Rattle.surface.specs.Meaning.{Meaning}
-use Rattle.raster.specs.Layout.{laid, Redrawn, others, Untouched, untouched, row_there}
+use Rattle.raster.specs.Layout.{laid, Redrawn, others, Untouched, rest_of, row_there}
 
 -- the bytes of a picture
 abbrev pub bytewise_needs : ℕ → ℕ → ℕ
@@ -18,7 +18,7 @@ bytes_spare w h m = others w h w (row_there w (length m)) (λ i. slice_index m i
 
 -- what a draw leaves as it is
 abbrev pub bytewise_rest : ℕ → ℕ → List ℕ → GName → Untouched
-bytewise_rest = untouched bytes_spare
+bytewise_rest = rest_of bytes_spare
 
 -- what a draw does to the memory
 pub record BytesDrawn (w h : ℕ) (old : List ℕ) (region : ℤ → ℤ → Bool) (v : ℕ) (new : List ℕ) : Type 0 where

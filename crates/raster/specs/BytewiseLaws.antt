@@ -18,8 +18,8 @@ module _ (w h : ℕ) (m n : List ℕ) (region : ℤ → ℤ → Bool) (v : ℕ) 
   abbrev new : ℕ → ℕ
   new i = slice_index n i
 
-  picture : bytewise w h n ≡ drawn region (λ _ _. v) (bytewise w h m)
-  picture =
+  drawn_picture : bytewise w h n ≡ drawn region (λ _ _. v) (bytewise w h m)
+  drawn_picture =
       let r : Redrawn w h w 8 (row_there w (length m)) region v (λ i. old i % 256) (λ i. new i % 256) = record { units = λ i. cut _ v _ _ (d.bytes.units i) } in
       subst (λ k. laid w h w 8 (row_there w k) (λ i. new i % 256) ≡ drawn region (λ _ _. v) (bytewise w h m)) (sym d.long)
       (redrawn_picture w h w 8 (row_there w (length m)) (omega arith) (λ i. old i % 256) (λ i. new i % 256) region v r)
@@ -35,7 +35,7 @@ bytewise-lawful = record {
   framed = λ w h m fit i. record { width = w; height = h; depth = 8; opens = λ x y. all_open w h w (length m) fit x y i };
   sound = λ w h m sides. laid_sound w h w 8 (row_there w (length m)) (λ i. slice_index m i % 256) sides (omega arith) (omega arith) (omega arith) (λ i. omega arith);
   long = λ w h m n region v d. d.long;
-  drawn = picture;
+  drawn = drawn_picture;
   spared = λ w h m n region v d i j. spared w h m n region v d j i;
   none = λ w h m v. record { long = refl; bytes = record { units = λ i. refl } };
   alike = λ w h m n r s v same d. record {

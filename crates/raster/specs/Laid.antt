@@ -7,7 +7,7 @@ use Rattle.std.proofs.lemmas.Bool.Decides.{nat_tests}
 use Rattle.std.specs.Borrow.{GName}
 use Rattle.surface.specs.Meaning.{Meaning, Sound, Frame, frame, spans, inside, drawn}
 use Rattle.raster.specs.Lawful.{Sides, Lawful}
-use Rattle.raster.specs.Layout.{has_row, has, laid, Redrawn, others, row_there, untouched, Untouched}
+use Rattle.raster.specs.Layout.{has_row, has, laid, Redrawn, others, row_there, rest_of, Untouched}
 use Rattle.raster.specs.declared.size.Size.{Size}
 
 pub sides : (s : Size) → Sides s.width s.height
@@ -17,7 +17,7 @@ sides s = record { wide = s.wide; high = s.high; both = s.both }
 pub frame_stays : {depth : ℕ} {needed : ℕ → ℕ → ℕ} {shows : ℕ → ℕ → List ℕ → Meaning} {spare : ℕ → ℕ → List ℕ → ℕ → ℕ}
     {Redraws : ℕ → ℕ → List ℕ → (ℤ → ℤ → Bool) → ℕ → List ℕ → Type 0} → Lawful depth needed shows spare Redraws
     → (w h w' h' : ℕ) (m m' : List ℕ) (l l' : GName) → needed w h ≤ length m → needed w' h' ≤ length m'
-    → untouched spare w h m l ≡ untouched spare w' h' m' l' → frame (shows w h m) ≡ frame (shows w' h' m')
+    → rest_of spare w h m l ≡ rest_of spare w' h' m' l' → frame (shows w h m) ≡ frame (shows w' h' m')
 frame_stays {depth = depth} laws w h w' h' m m' l l' fit fit' e =
     let f : Untouched → Frame = λ r. record { width = r.width; height = r.height; depth = depth; opens = inside r.width r.height } in
     laws.framed w h m fit ∙ ap f e ∙ sym (laws.framed w' h' m' fit')

@@ -40,8 +40,8 @@ pub record Untouched : Type 0 where
   pub spare : ℕ → ℕ
 
 -- what no draw changes, in a layout with these units that are no cell's
-abbrev pub untouched : (ℕ → ℕ → List ℕ → ℕ → ℕ) → ℕ → ℕ → List ℕ → GName → Untouched
-untouched spare w h m lender = record { width = w; height = h; bytes = length m; lender = lender; spare = spare w h m }
+abbrev pub rest_of : (ℕ → ℕ → List ℕ → ℕ → ℕ) → ℕ → ℕ → List ℕ → GName → Untouched
+rest_of spare w h m lender = record { width = w; height = h; bytes = length m; lender = lender; spare = spare w h m }
 
 -- a memory of so many bytes has all of row y, where each row has r bytes
 abbrev pub row_there : ℕ → ℕ → ℤ → Bool

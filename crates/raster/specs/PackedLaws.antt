@@ -9,8 +9,8 @@ use Rattle.raster.specs.Laid.{all_open, laid_sound, redrawn_picture, redrawn_oth
 use Rattle.raster.specs.Packing.{stride, there, packed, packed_needs, packed_spare, PackedDrawn}
 
 module _ (w h : ℕ) (m n : List ℕ) (region : ℤ → ℤ → Bool) (v : ℕ) (d : PackedDrawn w h m region v n) where
-  picture : packed w h n ≡ drawn region (λ _ _. v) (packed w h m)
-  picture =
+  drawn_picture : packed w h n ≡ drawn region (λ _ _. v) (packed w h m)
+  drawn_picture =
       subst (λ k. laid w h (8 * stride w) 1 (row_there (stride w) k) (bit_of n) ≡ drawn region (λ _ _. v) (packed w h m)) (sym d.long)
       (redrawn_picture w h (8 * stride w) 1 (there w m) (omega arith) (bit_of m) (bit_of n) region v d.bits)
 
@@ -25,7 +25,7 @@ packed-lawful = record {
   framed = λ w h m fit i. record { width = w; height = h; depth = 1; opens = λ x y. all_open w h (stride w) (length m) fit x y i };
   sound = λ w h m sides. laid_sound w h (8 * stride w) 1 (there w m) (bit_of m) sides (omega arith) (omega arith) (omega arith) (λ i. omega arith);
   long = λ w h m n region v d. d.long;
-  drawn = picture;
+  drawn = drawn_picture;
   spared = λ w h m n region v d i j. spared w h m n region v d j i;
   none = λ w h m v. record { long = refl; bits = record { units = λ i. refl } };
   alike = λ w h m n r s v same d. record { long = d.long; bits = redrawn_alike w h (8 * stride w) 1 (there w m) (bit_of m) (bit_of n) r s v same d.bits };

@@ -3,7 +3,7 @@ use Rattle.std.specs.Prelude.{◌≡◌, ℕ, ◌+◌, ◌*◌, ◌/◌, Bool, L
 use Rattle.std.specs.Borrow.{GName}
 use Rattle.surface.specs.Meaning.{Meaning}
 use Rattle.raster.specs.Bits.{bit_of}
-use Rattle.raster.specs.Layout.{laid, Redrawn, others, Untouched, untouched, row_there}
+use Rattle.raster.specs.Layout.{laid, Redrawn, others, Untouched, rest_of, row_there}
 
 -- the bytes of a row
 abbrev pub stride : ℕ → ℕ
@@ -25,7 +25,7 @@ packed_spare w h m = others w h (8 * stride w) (there w m) (bit_of m)
 
 -- what a draw leaves as it is
 abbrev pub packed_rest : ℕ → ℕ → List ℕ → GName → Untouched
-packed_rest = untouched packed_spare
+packed_rest = rest_of packed_spare
 
 -- what a draw does to the memory
 pub record PackedDrawn (w h : ℕ) (old : List ℕ) (region : ℤ → ℤ → Bool) (v : ℕ) (new : List ℕ) : Type 0 where

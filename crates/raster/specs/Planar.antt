@@ -3,7 +3,7 @@ use Rattle.std.specs.Prelude.{◌≡◌, ℕ, ◌+◌, ◌*◌, ◌/◌, ◌%◌
 use Rattle.std.specs.Borrow.{GName}
 use Rattle.surface.specs.Meaning.{Meaning}
 use Rattle.raster.specs.Bits.{bit_of, among}
-use Rattle.raster.specs.Layout.{laid, has, Untouched, untouched}
+use Rattle.raster.specs.Layout.{laid, has, Untouched, rest_of}
 use Rattle.raster.specs.Packing.{stride}
 
 -- the bits of a plane
@@ -47,4 +47,4 @@ planes_spare w h m i = cond (celled w h m (λ _ _. true) i) 0 (bit_of m i)
 
 -- what a draw leaves as it is
 abbrev pub planar_rest : ℕ → ℕ → List ℕ → GName → Untouched
-planar_rest = untouched planes_spare
+planar_rest = rest_of planes_spare

@@ -93,8 +93,8 @@ module _ (w h : ℕ) (m n : List ℕ) (region : ℤ → ℤ → Bool) (v : ℕ) 
         cond (ltb (i / plane w h) 4 && has w h (λ _. leb (4 * (h * stride w)) k) (pos (i % plane w h % (8 * stride w))) (pos (i % plane w h / (8 * stride w)))) 0 (bit_of n i) in
         subst (λ k. at k ≡ planes_spare w h m i) (sym d.long) left_bit
 
-  picture : planar w h n ≡ drawn region (λ _ _. v) (planar w h m)
-  picture =
+  drawn_picture : planar w h n ≡ drawn region (λ _ _. v) (planar w h m)
+  drawn_picture =
       let b = plane w h in
       subst (λ k. laid w h (8 * stride w) 4 (λ _. leb (4 * (h * stride w)) k) (four b n) ≡ drawn region (λ _ _. v) (planar w h m)) (sym d.long)
       (redrawn_picture w h (8 * stride w) 4 (planes_there w h m) (omega arith) (four b m) (four b n) region v (record { units = unit_of }))
@@ -113,7 +113,7 @@ planar-lawful = record {
       laid_sound w h (8 * stride w) 4 (planes_there w h m) (four n m) sides (omega arith) (omega arith) (omega arith)
       (λ i. four_below (ltb i n) (bit_of m i) (bit_of m (n + i)) (bit_of m (2 * n + i)) (bit_of m (3 * n + i)) (omega arith) (omega arith) (omega arith) (omega arith));
   long = λ w h m n region v d. d.long;
-  drawn = picture;
+  drawn = drawn_picture;
   spared = λ w h m n region v d i j. spared w h m n region v d j i;
   none = λ w h m v. record { long = refl; bits = λ i. no_cell (ltb (i / plane w h) 4) _ _ };
   alike = λ w h m n r s v same d. record {

@@ -3,7 +3,7 @@ ghost use Rattle.surface.specs.Meaning.{inside, strip, filled};
 ghost use Rattle.surface.specs.Rects.{Kept};
 ghost use Rattle.surface.specs.Rects.Keep.{nothing};
 ghost use Rattle.raster.specs.Laid.{sides, frame_stays};
-ghost use Rattle.raster.specs.Layout.{fit, fitting, Untouched, untouched};
+ghost use Rattle.raster.specs.Layout.{fit, fitting, Untouched, rest_of};
 
 use crate::cells::{clip, place};
 use crate::layout::Layout;
@@ -87,7 +87,7 @@ impl<L: Layout> Surface for Raster<'_, L> {
     // The units that are no cell's stay, and the lender too.
     ghost Rest = { Untouched };
 
-    ghost rest = { λ s. untouched L.spare s.size.width s.size.height s.memory.now s.memory.ghost_name };
+    ghost rest = { λ s. rest_of L.spare s.size.width s.size.height s.memory.now s.memory.ghost_name };
 
     ghost stays = { λ s t e. frame_stays L.lawful s.size.width s.size.height t.size.width t.size.height s.memory.now t.memory.now s.memory.ghost_name t.memory.ghost_name s.roomy t.roomy e };
 
@@ -119,7 +119,7 @@ impl<L: Layout> Surface for Raster<'_, L> {
     fn set(&mut self, x: i32, y: i32, v: u16)
         ensures picture { L.shows self.new.size.width self.new.size.height self.new.memory.now ≡ filled x y 1 v (L.shows self.old.size.width self.old.size.height self.old.memory.now) }
         ensures kept { Kept nothing (λ a b. strip x y 1 a b && (L.shows self.old.size.width self.old.size.height self.old.memory.now).opens a b) nothing }
-        ensures rest { untouched L.spare self.new.size.width self.new.size.height self.new.memory.now self.new.memory.ghost_name ≡ untouched L.spare self.old.size.width self.old.size.height self.old.memory.now self.old.memory.ghost_name }
+        ensures rest { rest_of L.spare self.new.size.width self.new.size.height self.new.memory.now self.new.memory.ghost_name ≡ rest_of L.spare self.old.size.width self.old.size.height self.old.memory.now self.old.memory.ghost_name }
         ensures memory { L.Redraws self.old.size.width self.old.size.height self.old.memory.now (strip x y 1) v self.new.memory.now }
         ensures lender { self.new.memory.ghost_name ≡ self.old.memory.ghost_name }
     {
@@ -131,7 +131,7 @@ impl<L: Layout> Surface for Raster<'_, L> {
     fn fill(&mut self, x: i32, y: i32, n: u16, v: u16)
         ensures picture { L.shows self.new.size.width self.new.size.height self.new.memory.now ≡ filled x y n v (L.shows self.old.size.width self.old.size.height self.old.memory.now) }
         ensures kept { Kept nothing (λ a b. strip x y n a b && (L.shows self.old.size.width self.old.size.height self.old.memory.now).opens a b) nothing }
-        ensures rest { untouched L.spare self.new.size.width self.new.size.height self.new.memory.now self.new.memory.ghost_name ≡ untouched L.spare self.old.size.width self.old.size.height self.old.memory.now self.old.memory.ghost_name }
+        ensures rest { rest_of L.spare self.new.size.width self.new.size.height self.new.memory.now self.new.memory.ghost_name ≡ rest_of L.spare self.old.size.width self.old.size.height self.old.memory.now self.old.memory.ghost_name }
         ensures memory { L.Redraws self.old.size.width self.old.size.height self.old.memory.now (strip x y n) v self.new.memory.now }
         ensures lender { self.new.memory.ghost_name ≡ self.old.memory.ghost_name }
     {

@@ -1,8 +1,9 @@
-use Rattle.std.proofs.Common.{◌+◌, ◌≤◌, [], ◌∷◌, ◌++◌, length, sym, refl, ◌∙◌, subst, arith}
+use Rattle.std.proofs.Common.{◌+◌, ◌≤◌, [], ◌∷◌, ◌++◌, length, sym, refl, ap, ◌∙◌, subst, arith}
 use Rattle.player.specs.Runs.{Steps}
 use Rattle.player.specs.declared.whole.Step.{Step}
 use Rattle.player.proofs.Wholes.{going_none, going_next, moves, ongoing_push}
 use Rattle.std.specs.Option.{option_or}
+use Rattle.capi.specs.Listening.{record_fault}
 use Rattle.capi.proofs.Firsts.{first_push}
 use Rattle.capi.proofs.listening.play_listening.Goals as goal
 
@@ -27,7 +28,7 @@ returns-then-is_final g c =
           stopped = record { front = i.0; last = here; split = refl; before = i.3; end = sym c.if-is_final.ensures };
         };
         last = refl;
-        first = c.or-first.ensures ∙ (λ k. option_or (i.4 k) (c.fault_of.ensures k)) ∙ sym (first_push i.0 here);
+        first = c.noted-first.ensures ∙ ap (λ f. option_or f (record_fault c.step-answer.result)) i.4 ∙ sym (first_push i.0 here);
       };
     }
 
@@ -50,5 +51,5 @@ records-preserved g c =
       going_next _ _ _ _ _ _ _ _ _ _ _ _ (i.0 ++ (here ∷ [])) _ i.1 i.2 d refl,
       c.step-answer.ensures.bytes ∙ i.2,
       ongoing_push i.0 here i.3 (sym c.if-is_final.ensures),
-      c.or-first.ensures ∙ (λ k. option_or (i.4 k) (c.fault_of.ensures k)) ∙ sym (first_push i.0 here),
+      c.noted-first.ensures ∙ ap (λ f. option_or f (record_fault c.step-answer.result)) i.4 ∙ sym (first_push i.0 here),
     )
