@@ -18,8 +18,8 @@ impl fmt::Display for Layer {
 
     fn fmt<W: fmt::Write>(&self, f: &mut fmt::Formatter<W>) -> fmt::Result {
         f.write_str(match self {
-            Layer::File => "file",
-            Layer::Record => "record",
+            Self::File => "file",
+            Self::Record => "record",
         })
     }
 }

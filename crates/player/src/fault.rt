@@ -8,7 +8,7 @@ use codes::Refusal;
 use metafile::{FileFault, Layer};
 use std::fmt;
 
-// Why the record at a place is refused.
+// Why the record at a place is refused. `FileFault` has the same fields: the type tells the layer, and `From` needs both.
 #[derive(Clone, Copy, PartialEq, Eq, Debug)]
 pub struct RecordFault {
     pub cause: Refusal,

@@ -21,7 +21,10 @@ impl fmt::Display for Counts {
             refused,
             passed_over,
         } = self;
-        write!(f, "taken {taken}, refused {refused}, passed over {passed_over}")
+        write!(
+            f,
+            "taken {taken}, refused {refused}, passed over {passed_over}"
+        )
     }
 }
 
