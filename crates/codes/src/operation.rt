@@ -3,8 +3,7 @@ ghost use Rattle.codes.specs.Operations.{combined, sourced, pictured, OperationP
 
 use crate::mux::{choose, spread};
 
-// The ternary raster operation `code` of the pattern's word, the source's and the picture's. Each of the 256 codes is one,
-// a truth table of three bits, so that an enum would say no more than the byte.
+// The ternary raster operation `code` of the pattern's word, the source's and the picture's.
 pub fn combine(code: u8, pattern: u16, source: u16, picture: u16) -> u16
     ensures { result ≡ combined code pattern source picture }
 {
@@ -26,8 +25,7 @@ pub fn depends_on_source(code: u8) -> bool
     ((code >> 2) ^ code) & 0x33 != 0
 }
 
-// Whether a picture's bit can change what the raster operation gives. Beside the one above: a shared function would state two more
-// parameters, the step between two rows and the rows, in a contract longer than both lines.
+// Whether a picture's bit can change what the raster operation gives.
 pub fn depends_on_picture(code: u8) -> bool
     ensures { result ≡ pictured code }
 {
