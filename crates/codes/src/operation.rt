@@ -18,7 +18,8 @@ pub fn combine(code: u8, pattern: u16, source: u16, picture: u16) -> u16
     )
 }
 
-// Whether a source's bit can change what the raster operation gives.
+// Whether a source's bit can change what the raster operation gives. No function shared with the next: it would be called
+// with a shift and a mask, and be longer than the two lines.
 pub fn depends_on_source(code: u8) -> bool
     ensures { result ≡ sourced code }
 {
