@@ -1,5 +1,5 @@
-ghost use Rattle.std.specs.Prelude.{◌≡◌, ◌+◌, ◌<◌, ◌≤◌};
-ghost use Rattle.player.specs.Runs.{past};
+ghost use Rattle.std.specs.Prelude.{◌≡◌, ◌<◌, ◌≤◌};
+ghost use Rattle.player.specs.Runs.{past, total};
 
 use crate::progress::{Phase, Progress};
 use codes::Refusal;
@@ -10,7 +10,7 @@ use playback::Answer;
 pub struct Run<'a> {
     pub(crate) bytes: &'a [u8],
     pub(crate) progress: Progress,
-    ghost counted: { progress.counts.taken + progress.counts.refused + progress.counts.passed_over ≤ progress.place },
+    ghost counted: { total progress.counts ≤ progress.place },
 }
 
 impl Run<'_> {
