@@ -3,7 +3,8 @@ ghost use Rattle.codes.specs.Operations.{combined, sourced, pictured, OperationP
 
 use crate::mux::{choose, spread};
 
-// The ternary raster operation `code` of the pattern's word, the source's and the picture's.
+// The ternary raster operation `code` of the pattern's word, the source's and the picture's. Each of the 256 codes is one,
+// a truth table of three bits, so that an enum would say no more than the byte.
 pub fn combine(code: u8, pattern: u16, source: u16, picture: u16) -> u16
     ensures { result ≡ combined code pattern source picture }
 {
