@@ -118,15 +118,14 @@ module _ (p q : Point) (rect : Rect) where
         simp en (local_more _ _ _ (λ _ _ d. mixed (mode_number mode) ink d) m m' m'' k k' k'' z z' z'' (split n c is) (fresh n c is) d e)
 
 -- the cell that lies so far aside
-pub spot_is : (p q c : Point) (along n aside rest long short : ℕ) → short ≡ shorter p q → long ≡ longer p q
-    → Aside short long n aside rest → along ≡ n → c ≡ place p q along aside → c ≡ spot p q n
-spot_is p q c along n aside rest long short es el w ea ec =
-    let t : aside ≡ (2 * (n * shorter p q) + longer p q) / (2 * longer p q) = simp (← el, ← es) (aside_is aside long rest _ w.sum w.small) in
+pub spot_is : (p q c : Point) (along n aside rest : ℕ) → Aside (shorter p q) (longer p q) n aside rest → along ≡ n → c ≡ place p q along aside → c ≡ spot p q n
+spot_is p q c along n aside rest w ea ec =
+    let t : aside ≡ (2 * (n * shorter p q) + longer p q) / (2 * longer p q) = aside_is aside (longer p q) rest _ w.sum w.small in
     ec ∙ ap (λ m. place p q m aside) ea ∙ ap (place p q n) t
 
-pub aside_carry : (aside rest along short long : ℕ) → short ≤ long → Aside short long along aside rest → 2 * long ≤ rest + 2 * short
-    → Aside short long (along + 1) (aside + 1) (rest + 2 * short - 2 * long)
-aside_carry aside rest along short long less w h =
+pub aside_carry : (aside rest along short long rise run : ℕ) → rise ≡ 2 * short → run ≡ 2 * long → short ≤ long → Aside short long along aside rest → run ≤ rest + rise
+    → Aside short long (along + 1) (aside + 1) (rest + rise - run)
+aside_carry aside rest along short long rise run er eu less w h =
     let s = w.sum in
     let n = w.near in
     let r = w.small in

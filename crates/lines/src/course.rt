@@ -1,4 +1,4 @@
-ghost use Rattle.std.specs.Prelude.{◌≡◌, ◌+◌, ◌-◌, ◌<◌, ◌≤◌, MatchOption};
+ghost use Rattle.std.specs.Prelude.{◌≡◌, ◌+◌, ◌-◌, ◌*◌, ◌<◌, ◌≤◌, MatchOption};
 ghost use Rattle.std.specs.Iterator.{at_most};
 ghost use Rattle.drawing.specs.Lines.{longer, shorter, spot};
 ghost use Rattle.lines.specs.Courses.{Aside, Meets};
@@ -8,19 +8,20 @@ use drawing::Point;
 use std::ops::Range;
 use surface::Rect;
 
-// The cells of a segment at some places along its longer way: how far aside the next one lies, and the rest of the division.
+// The cells of a segment at some places along its longer way: how far aside the next one lies, and the rest of the division. It grows by
+// `rise`, twice the shorter side, at each place, and `run`, twice the longer side, is one step aside.
 #[derive(Drop)]
 pub(crate) struct Course {
     segment: Segment,
     places: Range<u32>,
-    short: u32,
-    long: u32,
+    rise: u32,
+    run: u32,
     aside: u32,
     rest: u32,
-    ghost sides: { (short ≡ shorter segment.from segment.to) × (long ≡ longer segment.from segment.to) },
-    ghost small: { (short ≤ long) × (long < 262144) },
-    ghost within: { places.end ≤ long },
-    ghost exact: { Aside short long places.start aside rest },
+    ghost sides: { (rise ≡ 2 * shorter segment.from segment.to) × (run ≡ 2 * longer segment.from segment.to) },
+    ghost small: { (rise ≤ run) × (run < 524288) },
+    ghost within: { 2 * places.end ≤ run },
+    ghost exact: { Aside (shorter segment.from segment.to) (longer segment.from segment.to) places.start aside rest },
 }
 
 impl Course {
@@ -37,8 +38,8 @@ impl Course {
         Course {
             segment,
             places,
-            short,
-            long,
+            rise: 2 * short,
+            run: 2 * long,
             aside: (whole / part) as u32,
             rest: (whole % part) as u32,
         }
@@ -68,9 +69,9 @@ impl Iterator for Course {
     fn next(&mut self) -> Option<Point> {
         let along = self.places.next()?;
         let cell = self.segment.at(along, self.aside);
-        self.rest += 2 * self.short;
-        if self.rest >= 2 * self.long {
-            self.rest -= 2 * self.long;
+        self.rest += self.rise;
+        if self.rest >= self.run {
+            self.rest -= self.run;
             self.aside += 1;
         }
         Some(cell)

@@ -8,12 +8,15 @@ overflow_cast-result-2 c =
     let w = aside_of c.args.places.start c.short_side-short.result c.long_side-long.result _ _ _ _ (omega arith) (omega arith) c.from.ensures c.from-2.ensures c.from-3.ensures c.from-part.ensures in
     record { fits = omega arith }
 
+pub overflow_mul-result-2 : goal.overflow_mul-result-2
+overflow_mul-result-2 c = let p = sides_small c.args.segment.from c.args.segment.to c.args.segment.placed in omega arith
+
 pub invariant_of-result : goal.invariant_of-result
 invariant_of-result c =
     let p = sides_small c.args.segment.from c.args.segment.to c.args.segment.placed in
     record {
-      sides = (c.short_side-short.ensures, c.long_side-long.ensures);
+      sides = (omega arith, omega arith);
       small = (omega arith, omega arith);
       within = omega arith;
-      exact = aside_of c.args.places.start c.short_side-short.result c.long_side-long.result _ _ _ _ (omega arith) (omega arith) c.from.ensures c.from-2.ensures c.from-3.ensures c.from-part.ensures;
+      exact = simp (c.short_side-short.ensures, c.long_side-long.ensures) at (aside_of c.args.places.start c.short_side-short.result c.long_side-long.result _ _ _ _ (omega arith) (omega arith) c.from.ensures c.from-2.ensures c.from-3.ensures c.from-part.ensures);
     }
