@@ -57,8 +57,11 @@ fn trace_step(rt: &HostRuntime, checked: Checked<'_>, step: Step) -> io::Result<
 
 // A line for each of the first refused records.
 fn tell_refused(rt: &HostRuntime, steps: &[Step]) -> io::Result<()> {
-    let faults = steps.iter().filter_map(|step| step.answer.err());
-    for fault in faults.filter(|fault| fault.layer() == Layer::Record).take(TOLD) {
+    let faults = steps
+        .iter()
+        .filter_map(|step| step.answer.err())
+        .filter(|fault| fault.layer() == Layer::Record);
+    for fault in faults.take(TOLD) {
         eprintln!(rt; "refused {fault}")?;
     }
     Ok(())
