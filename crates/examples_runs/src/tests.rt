@@ -26,14 +26,9 @@ const BRUSH: &[u8] = b"\x07\0\0\0\xFC\x02\0\0\x01\0\0\x01\0\0";
 
 const END: &[u8] = b"\x03\0\0\0\0\0";
 
-// The number of a fault, or 0.
-fn number_of(answer: Result<Answer, StepFault>) -> u8 {
-    answer.err().map_or(0, StepFault::number)
-}
-
-// The offset that a fault tells, or 0.
-fn place_of(answer: Result<Answer, StepFault>) -> usize {
-    answer.err().map_or(0, StepFault::place)
+// The number of a fault, and the offset that it tells.
+fn fault_of(answer: Result<Answer, StepFault>) -> Option<(u8, usize)> {
+    answer.err().map(|fault| (fault.number(), fault.place()))
 }
 
 #[test]
@@ -60,10 +55,10 @@ fn refused_and_passed_over(rt: HostRuntime) -> Result<(), Fail> {
     let mut surface = Packed::new(&mut memory, 8, 1);
     let mut run = start(check(FAULTS)?);
     let odd_end = run.step(&mut surface);
-    assert_eq!(rt; (number_of(odd_end), place_of(odd_end)), (6, 18));
+    assert_eq!(rt; fault_of(odd_end), Some((6, 18)));
     assert!(rt; matches!(run.step(&mut surface), Ok(Answer::PassedOver)));
     let selection = run.step(&mut surface);
-    assert_eq!(rt; (number_of(selection), place_of(selection)), (11, 32));
+    assert_eq!(rt; fault_of(selection), Some((11, 32)));
     assert!(rt; matches!(run.step(&mut surface), Ok(Answer::Ended)));
     let counts = run.finish();
     assert_eq!(rt;
@@ -81,8 +76,8 @@ fn no_end_record(rt: HostRuntime) -> Result<(), Fail> {
     assert!(rt; matches!(run.step(&mut surface), Ok(Answer::PassedOver)));
     let first = run.step(&mut surface);
     let second = run.step(&mut surface);
-    assert_eq!(rt; (number_of(first), place_of(first)), (5, 24));
-    assert_eq!(rt; (number_of(second), place_of(second)), (5, 24));
+    assert_eq!(rt; fault_of(first), Some((5, 24)));
+    assert_eq!(rt; fault_of(second), Some((5, 24)));
     let counts = run.finish();
     assert_eq!(rt;
         (counts.taken, counts.refused, counts.passed_over),
@@ -104,8 +99,8 @@ fn seventeenth_object(rt: HostRuntime) -> Result<(), Fail> {
     let mut run = start(check(&file)?);
     let steps = play(&mut run, &mut surface, rt.alloc())?;
     assert!(rt; steps.len() == 18);
-    assert_eq!(rt; number_of(steps[15].answer), 0);
-    assert_eq!(rt; number_of(steps[16].answer), 10);
+    assert!(rt; steps[15].answer.is_ok());
+    assert_eq!(rt; steps[16].answer.err().map(StepFault::number), Some(10));
     let counts = run.finish();
     assert_eq!(rt;
         (counts.taken, counts.refused, counts.passed_over),

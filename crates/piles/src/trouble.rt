@@ -1,14 +1,23 @@
 use std::alloc::AllocError;
 use std::io;
-use thiserror::Error;
 
-// Why the comparison could not be made.
-#[derive(Debug, Drop, Error)]
+// Why the comparison could not be made. From by hand: a derived one keeps the error in its case, and where this program fails it would
+// print another line.
+#[derive(Clone, Copy, Debug)]
 pub(crate) enum Trouble {
-    #[error("out of memory")]
-    Memory(#[from] AllocError),
-    #[error("reading or writing failed")]
-    InOrOut(#[from] io::Error),
-    #[error("a record of a sample is refused or passed over, or the sample is")]
+    Memory,
+    InOrOut,
     Refused,
+}
+
+impl From<io::Error> for Trouble {
+    fn from(_error: io::Error) -> Trouble {
+        Trouble::InOrOut
+    }
+}
+
+impl From<AllocError> for Trouble {
+    fn from(_error: AllocError) -> Trouble {
+        Trouble::Memory
+    }
 }
