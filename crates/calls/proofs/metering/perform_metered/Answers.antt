@@ -33,6 +33,6 @@ returns g c =
     = subst (λ v. Measured g.I.Ink.shade c.args.run.now.bytes.now g.S.Surface.means g.S.Surface.rest v c.args.run.now.progress m (vec_items c.loop-call.replies) c.loop-call.run.progress c.loop-call.meter) all c.loop-call.invariant.0 in
     record {
       bytes = c.loop-call.invariant.1;
-      performed = measured_metered _ _ _ _ _ _ _ _ _ _ (g.S.Surface.sound m.below).shallow l;
+      performed = measured_metered _ _ _ _ _ _ _ _ _ _ (g.met.S.Surface.sound m.below).shallow l;
       untouched = tt;
     }

@@ -35,6 +35,6 @@ returns g c =
     = subst (λ v. Along g.I.Ink.shade c.args.run.now.bytes.now g.S.Surface.means g.S.Surface.keeps g.S.Surface.rest (map act.Call v) c.args.run.now.progress s (vec_items c.loop-call.replies) c.loop-call.run.progress c.loop-call.surface) all c.loop-call.invariant.0 in
     record {
       bytes = c.loop-call.invariant.1;
-      performed = along_performed _ _ _ _ _ _ _ _ _ _ _ (g.S.Surface.sound s).shallow l;
+      performed = along_performed _ _ _ _ _ _ _ _ _ _ _ (g.met.S.Surface.sound s).shallow l;
       untouched = tt;
     }

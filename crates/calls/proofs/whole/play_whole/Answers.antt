@@ -16,6 +16,6 @@ returns g c =
       bytes = c.play.ensures.bytes;
       played = c.play.ensures.played;
       apart = made_so (λ v. PlayedOut means g.S.Surface.keeps g.S.Surface.rest file t s (vec_items v) u s') (λ v. PlayedApart file t (means s) (vec_items v) u (means s')) c.play.result
-          (λ v p. played-apart file t (means s) (g.S.Surface.sound s).shallow (vec_items v) u (means s') p.cells p.plays) c.play.ensures.played;
+          (λ v p. played-apart file t (means s) (g.met.S.Surface.sound s).shallow (vec_items v) u (means s') p.cells p.plays) c.play.ensures.played;
       untouched = c.play.ensures.untouched;
     }

@@ -26,5 +26,5 @@ copy_rect-requires g c =
 pub returns : goal.returns
 returns g c =
     performed _ _ _ _ _ _ _ _ (cond-true _ _ _ (sym c.in_range.ensures ∙ c.if-not-in_range.false))
-    (drawn_shown _ _ _ _ _ _ _ _ _ _ _ (g.S.Surface.sound c.args.surface.now) c.width.ensures c.height.ensures c.visible-shown.ensures.cells
+    (drawn_shown _ _ _ _ _ _ _ _ _ _ _ (g.met.S.Surface.sound c.args.surface.now) c.width.ensures c.height.ensures c.visible-shown.ensures.cells
     (copied_at _ _ _ _ _ _ _ _ _ _ _ c.way.ensures c.copy_rect.ensures))

@@ -17,5 +17,5 @@ pub returns-in-Solid : goal.returns-in-Solid
 returns-in-Solid g c =
     performed _ _ _ _ _ _ _ _ (cond-true _ _ _ (sym c.in_range.ensures ∙ c.if-not-in_range.false))
     (pen_draws c.args.pencil.now.pen _ _ _ _ _ _ _ _ _ c.in-Solid.is
-    (drawn_shown _ _ _ _ _ _ _ _ _ _ _ (g.S.Surface.sound c.args.surface.now) c.width.ensures c.height.ensures
+    (drawn_shown _ _ _ _ _ _ _ _ _ _ _ (g.met.S.Surface.sound c.args.surface.now) c.width.ensures c.height.ensures
     (λ a b. shown_cells _ _ _ _ (c.shown-rect.ensures a b)) c.trace.ensures))
