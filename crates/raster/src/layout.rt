@@ -24,9 +24,6 @@ pub trait Storage {
     // What a draw does to a memory: the cells of a region took a word.
     ghost Redraws: { ℕ → ℕ → List ℕ → (ℤ → ℤ → Bool) → ℕ → List ℕ → Type 0 };
 
-    // A member and not a law after the methods: the members of Surface cite it, and members may not cite a law.
-    ghost lawful: { Lawful DEPTH needed shows spare Redraws };
-
     fn needed(size: Size) -> usize
         ensures { result ≡ needed size.width size.height };
 
@@ -54,6 +51,9 @@ pub trait Storage {
         requires columns { columns.end ≤ size.width }
         requires row { y < size.height }
         ensures { Redraws size.width size.height memory.old (strip (pos columns.start) (pos y) (columns.end - columns.start)) v memory.new };
+
+    // What holds of every layout.
+    ghost lawful: { Lawful DEPTH needed shows spare Redraws };
 }
 
 // A layout of a raster. What it does to a memory stands in Storage, which only this crate can name, so that no caller has to know

@@ -24,4 +24,4 @@ loop-call-preserved g c =
 pub returns-clause-performed : goal.returns-clause-performed
 returns-clause-performed g c =
     let m = c.args.meter.now in
-    measured_metered _ _ _ _ _ _ _ _ _ _ (g.S.Surface.sound m.below).shallow (rw (take_all _ _ c.loop-call-test.false) at c.loop-call.invariant.0)
+    measured_metered _ _ _ _ _ _ _ _ _ _ (g.met.S.Surface.sound m.below).shallow (rw (take_all _ _ c.loop-call-test.false) at c.loop-call.invariant.0)

@@ -26,4 +26,4 @@ loop-call-preserved g c =
 pub returns-clause-performed : goal.returns-clause-performed
 returns-clause-performed g c =
     let s = c.args.surface.now in
-    along_performed _ _ _ _ _ _ _ _ _ _ _ (g.S.Surface.sound s).shallow (rw (take_all _ _ c.loop-call-test.false) at c.loop-call.invariant.0)
+    along_performed _ _ _ _ _ _ _ _ _ _ _ (g.met.S.Surface.sound s).shallow (rw (take_all _ _ c.loop-call-test.false) at c.loop-call.invariant.0)

@@ -4,5 +4,5 @@ use Rattle.calls.proofs.whole.play_whole.Goals as goal
 
 pub returns-clause-apart : goal.returns-clause-apart
 returns-clause-apart g c =
-    IfOk-weaker c.play.result _ _ (λ v p. played-apart c.args.run.now.bytes.now c.args.run.now.progress (g.S.Surface.means c.args.surface.now) (g.S.Surface.sound c.args.surface.now).shallow _ _ _ p.cells p.plays)
+    IfOk-weaker c.play.result _ _ (λ v p. played-apart c.args.run.now.bytes.now c.args.run.now.progress (g.S.Surface.means c.args.surface.now) (g.met.S.Surface.sound c.args.surface.now).shallow _ _ _ p.cells p.plays)
     c.play.ensures.played

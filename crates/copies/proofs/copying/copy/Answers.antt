@@ -24,5 +24,5 @@ invariant_of-copying g c =
 pub returns : goal.returns
 returns g c =
     performed _ _ _ _ _ _ _ _ (cond-true _ _ _ c.in_ok-shift.ensures.0)
-    (drawn_shown _ _ _ _ _ _ _ _ _ _ _ (g.S.Surface.sound c.args.surface.now) c.width.ensures c.height.ensures c.visible-target.ensures.cells
+    (drawn_shown _ _ _ _ _ _ _ _ _ _ _ (g.met.S.Surface.sound c.args.surface.now) c.width.ensures c.height.ensures c.visible-target.ensures.cells
     (copied_at _ _ _ _ _ _ _ _ _ _ _ c.in_ok-shift.ensures.1 c.copy_rows.ensures))

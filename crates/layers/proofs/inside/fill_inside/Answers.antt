@@ -18,7 +18,7 @@ returns-clause-picture g c =
     -- the loan ends at the value behind the same reference
     let name : c.into_below.result.ghost_name ≡ fence.below.ghost_name = ap (λ r. r.ghost_name) c.into_below.ensures ∙ ap (λ t. t.1.0) left in
     let picture = below_fence fence.rect (m fence.below.now) (m last.below.now) cells (λ _ _. c.args.v)
-    (g.S.Surface.stays _ _ (ap (λ t. t.1.1) left))
+    (g.met.S.Surface.stays _ _ (ap (λ t. t.1.1) left))
     (subst (λ r. fenced r (m last.below.now) ≡ drawn cells (λ _ _. c.args.v) (fenced fence.rect (m fence.below.now))) (ap (λ t. t.0) left) (simp to_z-of_z at c.fill.ensures.picture)) in
     let all : m last.below.now ≡ drawn (λ a b. cells a b && holds c.args.rect a b) (λ _ _. c.args.v) (m c.args.surface.now) = subst₂ (λ t r. m last.below.now ≡ drawn (λ a b. cells a b && holds r a b) (λ _ _. c.args.v) (m t)) (ap (λ r. r.now) c.new-fence.ensures.below) c.new-fence.ensures.rect picture in
     search rules

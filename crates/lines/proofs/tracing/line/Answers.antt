@@ -16,6 +16,6 @@ returns g c =
       | in_default w ↦ rw w.surface-is (pen_idle c.args.pencil.now.pen _ _ _ _ _ w.in_default.is)
       | in-Solid w ↦ rw w.surface-is
           (pen_draws c.args.pencil.now.pen _ _ _ _ _ _ _ _ _ w.in-Solid.is
-          (drawn_shown _ _ _ _ _ _ _ _ _ _ _ (g.S.Surface.sound c.args.surface.now) w.width.ensures w.height.ensures
+          (drawn_shown _ _ _ _ _ _ _ _ _ _ _ (g.met.S.Surface.sound c.args.surface.now) w.width.ensures w.height.ensures
           (λ a b. shown_cells _ _ _ _ (w.shown.ensures a b)) (simp (e.0, e.1) at w.trace.ensures)))
     ])

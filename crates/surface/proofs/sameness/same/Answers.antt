@@ -13,4 +13,4 @@ returns-then-height g c =
     let e : m.width ≡ n.width = grind arith in
     let f : m.height ≡ n.height = grind arith in
     let told = all_in_range _ _ _ c.all.result (SameRow m n) c.all.ensures.ran (λ y q k. search (rules, tests)) (λ y q k. search (rules, tests)) in
-    (λ t. whole-picture m n (g.S.Surface.sound _) (g.T.Surface.sound _) e f (pos m.height) refl (λ z p q. told.0 t z p (omega (arith, ints))), λ same. told.1 (λ k p q. same.rows k))
+    (λ t. whole-picture m n (g.met.S.Surface.sound _) (g.met.T.Surface.sound _) e f (pos m.height) refl (λ z p q. told.0 t z p (omega (arith, ints))), λ same. told.1 (λ k p q. same.rows k))

@@ -11,4 +11,4 @@ returns g c =
     let m = g.S.Surface.means c.args.a.now in
     let n = g.T.Surface.means c.args.b.now in
     let told = all_in_range _ _ _ c.all.result (λ x. m.word x c.args.y ≡ n.word x c.args.y) c.all.ensures.ran (λ x q k. search (rules, tests)) (λ x q k. search (rules, tests)) in
-    (λ t. whole_row m n (g.S.Surface.sound _) (g.T.Surface.sound _) c.requires c.args.y (pos m.width) refl (λ z p q. told.0 t z p (omega (arith, ints))), λ same. told.1 (λ k p q. same k))
+    (λ t. whole_row m n (g.met.S.Surface.sound _) (g.met.T.Surface.sound _) c.requires c.args.y (pos m.width) refl (λ z p q. told.0 t z p (omega (arith, ints))), λ same. told.1 (λ k p q. same k))

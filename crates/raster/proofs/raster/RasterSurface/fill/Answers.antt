@@ -9,7 +9,7 @@ use Rattle.raster.proofs.raster.RasterSurface.fill.Goals as goal
 
 pub returns-in-Some : goal.returns-in-Some
 returns-in-Some g c =
-    let laws = g.L.Storage.lawful in
+    let laws = g.met.L.Storage.lawful in
     let w = c.args.self.now.size.width in
     let h = c.args.self.now.size.height in
     let m = c.args.self.now.memory.now in
@@ -26,7 +26,7 @@ returns-in-Some g c =
 
 pub returns-in_default : goal.returns-in_default
 returns-in_default g c =
-    let laws = g.L.Storage.lawful in
+    let laws = g.met.L.Storage.lawful in
     let w = c.args.self.now.size.width in
     let h = c.args.self.now.size.height in
     let m = c.args.self.now.memory.now in

@@ -19,6 +19,6 @@ returns-in_default g c =
     let fx = c.ranges.x in
     let fy = c.ranges.y in
     let out : inside w h x y ≡ false = simp to_z-of_z at c.in_default.ensures in
-    let laws = g.L.Storage.lawful in
+    let laws = g.met.L.Storage.lawful in
     let d = redraws_none laws w h m c.args.self.now.roomy (strip x y 1) c.args.v (apart w h x y out) in
     record { picture = laws.drawn w h m m _ c.args.v d; kept = still; rest = rest_stays laws w h m c.args.self.now.roomy m _ c.args.v _ d; memory = d; lender = refl }
