@@ -1,4 +1,4 @@
-// The player as a static library for C: one export for each function that C calls.
+// The player as a static library for C: one export for each function that C calls, since C has no generic one.
 #![tactic(auto)]
 
 ghost use Rattle.std.specs.Prelude.{◌≡◌, ◌*◌, length};

@@ -17,7 +17,7 @@ fn pixel<S: Surface>(surface: &S, x: usize, y: u32) -> u8
     }
 }
 
-// Byte i of row y.
+// Byte i of row y. No fold: its closure would have to state how large the byte is after each bit.
 fn octet<S: Surface>(surface: &S, i: usize, y: u32) -> u8
     requires left { i < 2 ^ 12 }
     requires high { y < 2 ^ 16 }

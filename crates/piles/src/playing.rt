@@ -12,7 +12,7 @@ pub(crate) const HEIGHT: u32 = 8;
 // The bytes of the first sample, which the second follows.
 const FIRST: usize = 220;
 
-// Both samples, from standard input.
+// Both samples, from standard input. Read as wmftopbm reads its file: a crate under two programs would be longer than these lines.
 pub(crate) fn samples(rt: &HostRuntime) -> Result<Vec<u8>, Trouble> {
     let mut file = Vec::new(rt.alloc());
     let _ = rt.stdin().take(4096).read_to_end(&mut file)?;

@@ -27,7 +27,8 @@ pub trait Storage {
     fn needed(size: Size) -> usize
         ensures { result ≡ needed size.width size.height };
 
-    // The word of the cell in column x of row y.
+    // The word of the cell in column x of row y. Memory and size side by side: a struct of both would be the raster again, which needs
+    // the layout.
     fn word(memory: &[u8], size: Size, x: usize, y: usize) -> u16
         requires memory { needed size.width size.height ≤ length memory.now }
         requires column { x < size.width }
