@@ -8,7 +8,8 @@ use ink::Solid;
 use pencil::Pencil;
 use raster::Bytes;
 
-// Copies w cells of a row of five from column `from` on to column `to`.
+// Copies w cells of a row of five from column `from` on to column `to`. Here and in the three like it the clause `bytes` tells the caller
+// what its array's type tells only where it was not lent.
 fn shift(memory: &mut [u8], w: u8, from: u8, to: u8)
     requires { length memory.old ≡ 5 }
     ensures row { bytewise 5 1 memory.new ≡ moved w (pos from) (pos to) (bytewise 5 1 memory.old) }
