@@ -9,7 +9,7 @@ use player::start;
 use raster::{Layout, Raster};
 use surface::Surface;
 
-// Plays a checked file on a surface until it stops.
+// Plays a checked file on a surface until it stops. Counts go by `as`, since a `u64` has no From<usize>.
 fn play_on<S: Surface>(checked: Checked<'_>, surface: &mut S) -> Report
     ensures { Reported S.means S.keeps S.rest checked.entry.bytes.now checked.entry.first checked.entry.objects surface.old result surface.new }
 {

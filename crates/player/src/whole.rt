@@ -23,7 +23,7 @@ pub fn is_final(answer: Result<Answer, StepFault>) -> bool
 
 // Steps until the run has ended or a file fault comes. Memory is reserved first, so that want of it changes nothing.
 // No closure takes the steps, so that one function serves a listener too: the room that `push_reserved` needs is there at each step
-// to come, and not at every call.
+// to come, and not at every call. What want of memory leaves is said by each call, as its bytes are.
 pub fn play<S: Surface>(
     run: &mut Run<'_>,
     surface: &mut S,
