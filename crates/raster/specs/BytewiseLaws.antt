@@ -1,11 +1,12 @@
 -- The laws of pictures of one byte a cell.
 use Rattle.std.specs.Prelude.{◌≡◌, ℕ, ◌%◌, Bool, true, false, cond, List, length, ℤ, slice_index, refl}
-use Rattle.std.proofs.Common.{sym, subst, arith}
-use Rattle.surface.specs.Meaning.{drawn}
-use Rattle.raster.specs.Layout.{laid, Redrawn, others, row_there}
+use Rattle.std.proofs.Common.{sym, ap, subst, arith}
+use Rattle.std.specs.Borrow.{GName}
+use Rattle.surface.specs.Meaning.{Frame, frame, drawn}
+use Rattle.raster.specs.Layout.{has, laid, Redrawn, others, row_there, Untouched}
 use Rattle.raster.specs.Lawful.{Lawful}
 use Rattle.raster.specs.Laid.{all_open, laid_sound, redrawn_picture, redrawn_others, redrawn_alike}
-use Rattle.raster.specs.Bytewise.{bytewise, bytewise_needs, bytes_spare, BytesDrawn}
+use Rattle.raster.specs.Bytewise.{bytewise, bytewise_needs, bytes_spare, bytewise_rest, BytesDrawn}
 
 cut : (t : Bool) (v x y : ℕ) → y ≡ cond t (v % 256) x → y % 256 ≡ cond t (v % 256) (x % 256)
 cut true v x y e = omega arith
@@ -43,3 +44,9 @@ bytewise-lawful = record {
     bytes = redrawn_alike w h w 8 (row_there w (length m)) (λ i. slice_index m i) (λ i. slice_index n i) r s v same d.bytes;
   };
 }
+
+-- what no draw changes holds the frame, also where the memory is too short
+pub bytewise_frame : (w h w' h' : ℕ) (m m' : List ℕ) (l l' : GName) → bytewise_rest w h m l ≡ bytewise_rest w' h' m' l' → frame (bytewise w h m) ≡ frame (bytewise w' h' m')
+bytewise_frame w h w' h' m m' l l' e =
+    let f : Untouched → Frame = λ r. record { width = r.width; height = r.height; depth = 8; opens = has r.width r.height (row_there r.width r.bytes) } in
+    ap f e

@@ -1,12 +1,13 @@
 -- The laws of packed pictures.
 use Rattle.std.specs.Prelude.{◌≡◌, ℕ, ◌*◌, Bool, List, length, ℤ, refl}
-use Rattle.std.proofs.Common.{sym, subst, arith}
-use Rattle.surface.specs.Meaning.{drawn}
+use Rattle.std.proofs.Common.{sym, ap, subst, arith}
+use Rattle.std.specs.Borrow.{GName}
+use Rattle.surface.specs.Meaning.{Frame, frame, drawn}
 use Rattle.raster.specs.Bits.{bit_of}
-use Rattle.raster.specs.Layout.{laid, others, row_there}
+use Rattle.raster.specs.Layout.{has, laid, others, row_there, Untouched}
 use Rattle.raster.specs.Lawful.{Lawful}
 use Rattle.raster.specs.Laid.{all_open, laid_sound, redrawn_picture, redrawn_others, redrawn_alike}
-use Rattle.raster.specs.Packing.{stride, there, packed, packed_needs, packed_spare, PackedDrawn}
+use Rattle.raster.specs.Packing.{stride, there, packed, packed_needs, packed_spare, packed_rest, PackedDrawn}
 
 module _ (w h : ℕ) (m n : List ℕ) (region : ℤ → ℤ → Bool) (v : ℕ) (d : PackedDrawn w h m region v n) where
   drawn_picture : packed w h n ≡ drawn region (λ _ _. v) (packed w h m)
@@ -30,3 +31,9 @@ packed-lawful = record {
   none = λ w h m v. record { long = refl; bits = record { units = λ i. refl } };
   alike = λ w h m n r s v same d. record { long = d.long; bits = redrawn_alike w h (8 * stride w) 1 (there w m) (bit_of m) (bit_of n) r s v same d.bits };
 }
+
+-- what no draw changes holds the frame, also where the memory is too short
+pub packed_frame : (w h w' h' : ℕ) (m m' : List ℕ) (l l' : GName) → packed_rest w h m l ≡ packed_rest w' h' m' l' → frame (packed w h m) ≡ frame (packed w' h' m')
+packed_frame w h w' h' m m' l l' e =
+    let f : Untouched → Frame = λ r. record { width = r.width; height = r.height; depth = 1; opens = has r.width r.height (row_there (stride r.width) r.bytes) } in
+    ap f e

@@ -1,16 +1,17 @@
 -- The laws of pictures of four bits a cell, in four planes.
-use Rattle.std.specs.Prelude.{◌≡◌, ℕ, ◌+◌, ◌*◌, ◌/◌, ◌%◌, ◌^◌, ◌<◌, ◌≤◌, Bool, true, false, cond, ◌&&◌, List, length, ℤ, pos, refl}
-use Rattle.std.proofs.Common.{ltb, leb, sym, subst, ⊎_elim, arith}
+use Rattle.std.specs.Prelude.{◌≡◌, ℕ, ◌+◌, ◌*◌, ◌/◌, ◌%◌, ◌^◌, ◌<◌, ◌≤◌, Bool, true, false, cond, ◌&&◌, List, length, ℤ, pos, nat_le, refl}
+use Rattle.std.proofs.Common.{ltb, leb, sym, ap, subst, ⊎_elim, arith}
+use Rattle.std.specs.Borrow.{GName}
 use Rattle.std.proofs.lemmas.Nat.{le-div, mod-pow-add}
 use Rattle.std.proofs.lemmas.Bool.{cases_Bool, cases_lt, and_left, and_right, lt-ltb, le-ltb, le-leb}
 use Rattle.std.proofs.lemmas.Bool.Decides.{nat_tests}
-use Rattle.surface.specs.Meaning.{spans, inside, drawn}
+use Rattle.surface.specs.Meaning.{Frame, frame, spans, inside, drawn}
 use Rattle.raster.specs.Bits.{bit_of}
-use Rattle.raster.specs.Layout.{has, laid}
+use Rattle.raster.specs.Layout.{has, laid, Untouched}
 use Rattle.raster.specs.Lawful.{Lawful}
 use Rattle.raster.specs.Laid.{in_row, laid_sound, redrawn_picture}
 use Rattle.raster.specs.Packing.{stride}
-use Rattle.raster.specs.Planar.{plane, planes_there, four, planar, planar_needs, planes_spare, celled, PlanesDrawn}
+use Rattle.raster.specs.Planar.{plane, planes_there, four, planar, planar_needs, planes_spare, planar_rest, celled, PlanesDrawn}
 
 four_below : (t : Bool) (a b c d : ℕ) → a < 2 → b < 2 → c < 2 → d < 2 → cond t (a + 2 * b + 4 * c + 8 * d) 0 < 16
 four_below true a b c d p q r s = omega arith
@@ -121,3 +122,9 @@ planar-lawful = record {
     bits = λ i. let e = same (pos (i % plane w h % (8 * stride w))) (pos (i % plane w h / (8 * stride w))) in let u = d.bits i in cc;
   };
 }
+
+-- what no draw changes holds the frame, also where the memory is too short
+pub planar_frame : (w h w' h' : ℕ) (m m' : List ℕ) (l l' : GName) → planar_rest w h m l ≡ planar_rest w' h' m' l' → frame (planar w h m) ≡ frame (planar w' h' m')
+planar_frame w h w' h' m m' l l' e =
+    let f : Untouched → Frame = λ r. record { width = r.width; height = r.height; depth = 4; opens = has r.width r.height (λ _. nat_le (4 * (r.height * stride r.width)) r.bytes) } in
+    ap f e

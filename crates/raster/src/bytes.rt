@@ -1,7 +1,7 @@
 ghost use Rattle.raster.specs.Bytewise.{bytewise, bytewise_needs, bytes_spare, BytesDrawn};
 ghost use Rattle.raster.specs.BytewiseLaws.{bytewise-lawful};
 
-use crate::layout::{Layout, Storage};
+use crate::layout::{Access, Layout, Storage};
 use crate::raster::Raster;
 use crate::size::Size;
 use std::ops::Range;
@@ -32,11 +32,11 @@ impl Storage for OneByte {
         usize::from(size.height) * usize::from(size.width)
     }
 
-    fn word(memory: &[u8], size: Size, x: usize, y: usize) -> u16 {
+    fn word(_by: Access, memory: &[u8], size: Size, x: usize, y: usize) -> u16 {
         u16::from(memory[y * usize::from(size.width) + x])
     }
 
-    fn fill(memory: &mut [u8], size: Size, columns: Range<usize>, y: usize, v: u16) {
+    fn fill(_by: Access, memory: &mut [u8], size: Size, columns: Range<usize>, y: usize, v: u16) {
         let start = y * usize::from(size.width);
         memory[start + columns.start..start + columns.end].fill((v % 256) as u8);
     }

@@ -5,6 +5,11 @@ ghost use Rattle.raster.specs.Lawful.{Lawful};
 use crate::size::Size;
 use std::ops::Range;
 
+// Shows that a raster makes a call. Only this crate can make one, so that the calls of `Storage` are a raster's alone, which knows that
+// its memory is long enough and its cells are inside.
+#[derive(Clone, Copy)]
+pub struct Access(pub(crate) ());
+
 // How the cells of a picture lie in a memory: where a raster finds its bits.
 pub trait Storage {
     // The bits of a cell.
@@ -29,24 +34,24 @@ pub trait Storage {
 
     // The word of the cell in column x of row y. Memory and size side by side: a struct of both would be the raster again, which needs
     // the layout.
-    fn word(memory: &[u8], size: Size, x: usize, y: usize) -> u16
+    fn word(by: Access, memory: &[u8], size: Size, x: usize, y: usize) -> u16
         requires memory { needed size.width size.height ≤ length memory.now }
         requires column { x < size.width }
         requires row { y < size.height }
         ensures { result ≡ (shows size.width size.height memory.now).word (pos x) (pos y) };
 
     // Gives the cell in column x of row y the word v, cut to the depth.
-    fn set(memory: &mut [u8], size: Size, x: usize, y: usize, v: u16)
+    fn set(by: Access, memory: &mut [u8], size: Size, x: usize, y: usize, v: u16)
         requires memory { needed size.width size.height ≤ length memory.old }
         requires column { x < size.width }
         requires row { y < size.height }
         ensures { Redraws size.width size.height memory.old (strip (pos x) (pos y) 1) v memory.new }
     {
-        Self::fill(memory, size, x..x + 1, y, v);
+        Self::fill(by, memory, size, x..x + 1, y, v);
     }
 
     // The same of each cell in some columns of row y.
-    fn fill(memory: &mut [u8], size: Size, columns: Range<usize>, y: usize, v: u16)
+    fn fill(by: Access, memory: &mut [u8], size: Size, columns: Range<usize>, y: usize, v: u16)
         requires memory { needed size.width size.height ≤ length memory.old }
         requires order { columns.start ≤ columns.end }
         requires columns { columns.end ≤ size.width }
@@ -57,6 +62,5 @@ pub trait Storage {
     ghost lawful: { Lawful DEPTH needed shows spare Redraws };
 }
 
-// A layout of a raster. What it does to a memory stands in Storage, which only this crate can name, so that no caller has to know
-// that the memory is long enough.
+// A layout of a raster. What it does to a memory stands in Storage.
 pub trait Layout: Storage {}

@@ -3,7 +3,7 @@ ghost use Rattle.raster.specs.PackedLaws.{packed-lawful};
 ghost use Rattle.raster.specs.Packing.{stride, packed, packed_needs, packed_spare, PackedDrawn};
 
 use crate::bits::{bit_at, fill_row, paint_in_byte};
-use crate::layout::{Layout, Storage};
+use crate::layout::{Access, Layout, Storage};
 use crate::raster::Raster;
 use crate::size::Size;
 use std::ops::Range;
@@ -41,18 +41,18 @@ impl Storage for OneBit {
         usize::from(size.height) * pitch(size.width)
     }
 
-    fn word(memory: &[u8], size: Size, x: usize, y: usize) -> u16 {
+    fn word(_by: Access, memory: &[u8], size: Size, x: usize, y: usize) -> u16 {
         let start = y * pitch(size.width);
         bit_at(memory, 8 * start + x)
     }
 
     // One byte is written, without the cases of a fill.
-    fn set(memory: &mut [u8], size: Size, x: usize, y: usize, v: u16) {
+    fn set(_by: Access, memory: &mut [u8], size: Size, x: usize, y: usize, v: u16) {
         let start = y * pitch(size.width);
         paint_in_byte(memory, start + x / 8, x % 8..x % 8 + 1, v % 2 == 1);
     }
 
-    fn fill(memory: &mut [u8], size: Size, columns: Range<usize>, y: usize, v: u16) {
+    fn fill(_by: Access, memory: &mut [u8], size: Size, columns: Range<usize>, y: usize, v: u16) {
         let row = pitch(size.width);
         fill_row(memory, y * row, row, columns, v % 2 == 1);
     }

@@ -3,7 +3,7 @@ ghost use Rattle.raster.specs.PlanarLaws.{planar-lawful};
 ghost use Rattle.raster.specs.Planar.{four, planar, planar_needs, planes_spare, PlanesDrawn};
 
 use crate::bits::{bit_at, fill_row};
-use crate::layout::{Layout, Storage};
+use crate::layout::{Access, Layout, Storage};
 use crate::packed::{OneBit, pitch};
 use crate::raster::Raster;
 use crate::size::Size;
@@ -49,12 +49,12 @@ impl Storage for FourPlanes {
         4 * OneBit::needed(size)
     }
 
-    fn word(memory: &[u8], size: Size, x: usize, y: usize) -> u16 {
+    fn word(_by: Access, memory: &[u8], size: Size, x: usize, y: usize) -> u16 {
         let start = y * pitch(size.width);
         four_bits(memory, OneBit::needed(size), 8 * start + x)
     }
 
-    fn fill(memory: &mut [u8], size: Size, columns: Range<usize>, y: usize, v: u16) {
+    fn fill(_by: Access, memory: &mut [u8], size: Size, columns: Range<usize>, y: usize, v: u16) {
         let plane = OneBit::needed(size);
         let row = pitch(size.width);
         // By index: after a loop over `chunks_exact_mut` a proof knows the length of the memory, and no byte.

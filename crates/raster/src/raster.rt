@@ -6,7 +6,7 @@ ghost use Rattle.raster.specs.Laid.{sides, frame_stays};
 ghost use Rattle.raster.specs.Layout.{fit, fitting, Untouched, rest_of};
 
 use crate::cells::{clip, place};
-use crate::layout::Layout;
+use crate::layout::{Access, Layout};
 use crate::size::Size;
 use codes::Refusal;
 use std::marker::PhantomData;
@@ -23,7 +23,8 @@ pub struct Raster<'a, L: Layout> {
 }
 
 impl<'a, L: Layout> Raster<'a, L> {
-    // The size of a picture that a memory has place for.
+    // The size of a picture that a memory has place for. Memory, width and height stand side by side in three calls: they are the caller's,
+    // and a size is made of them here.
     fn size_in(memory: &[u8], width: u32, height: u32) -> Result<Size, Refusal>
         ensures { MatchResult result (λ s. (s.width ≡ width) × (s.height ≡ height) × (fit width height (L.needed width height) (length memory.now) ≡ true)) (λ e. (fitting width height (L.needed width height) (length memory.now) ≡ Err e) × (fit width height (L.needed width height) (length memory.now) ≡ false)) }
     {
@@ -107,7 +108,7 @@ impl<L: Layout> Surface for Raster<'_, L> {
 
     fn word(&self, x: i32, y: i32) -> u16 {
         match self.cell(x, y) {
-            Some((x, y)) => L::word(self.memory, self.size, x, y),
+            Some((x, y)) => L::word(Access(()), self.memory, self.size, x, y),
             None => 0,
         }
     }
@@ -124,7 +125,7 @@ impl<L: Layout> Surface for Raster<'_, L> {
         ensures lender { self.new.memory.ghost_name ≡ self.old.memory.ghost_name }
     {
         if let Some((x, y)) = self.cell(x, y) {
-            L::set(self.memory, self.size, x, y, v);
+            L::set(Access(()), self.memory, self.size, x, y, v);
         }
     }
 
@@ -137,7 +138,7 @@ impl<L: Layout> Surface for Raster<'_, L> {
     {
         let columns = clip(x, n, self.size.width);
         if let Some(y) = place(y, self.size.height) {
-            L::fill(self.memory, self.size, columns, y, v);
+            L::fill(Access(()), self.memory, self.size, columns, y, v);
         }
     }
 }
