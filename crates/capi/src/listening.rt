@@ -24,7 +24,7 @@ fn noted(first: Option<RecordFault>, answer: Result<Answer, StepFault>) -> Optio
     first.or(refused)
 }
 
-// Steps until the run has ended or a file fault comes. Nothing allocates.
+// Steps until the run has ended or a file fault comes. Nothing allocates, and so this stands beside `player::play`.
 pub fn play_listening<S: Surface>(run: &mut Run<'_>, surface: &mut S) -> Heard
     ensures bytes { run.new.bytes.now ≡ run.old.bytes.now }
     ensures heard { Listened S.means S.keeps S.rest run.old.bytes.now run.old.progress surface.old result run.new.progress surface.new }

@@ -34,7 +34,8 @@ impl Fault {
     };
 }
 
-// A cause with neither place nor layer.
+// A cause with neither place nor layer. Each fault becomes a `Fault` by itself: its type tells the layer. Places go by `as`, since a `u64`
+// has no From<usize>.
 impl From<Refusal> for Fault {
     ghost from_gives = { λ c f. f ≡ bare c };
 

@@ -1,4 +1,5 @@
-// The player as a static library for C: one export for each function that C calls, since C has no generic one.
+// The player as a static library for C: one export for each function that C calls, since C has no generic one. What C passes, and the
+// number that it is answered, are as its header declares them.
 #![tactic(auto)]
 
 ghost use Rattle.std.specs.Prelude.{◌≡◌, ◌*◌, length};

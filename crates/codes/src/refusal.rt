@@ -46,7 +46,7 @@ impl Refusal {
     }
 }
 
-// The cause in words.
+// The cause in words. By hand, since a derived Display states no text.
 impl fmt::Display for Refusal {
     ghost output = { λ refusal. Some (told refusal) };
 

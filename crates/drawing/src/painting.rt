@@ -12,7 +12,8 @@ use ink::{Ink, Solid};
 use pencil::{Narrowing, Pencil};
 use surface::{Rect, Surface};
 
-// Gives an area, inside a pencil's clip, the words of a raster operation of two inks and the picture.
+// Gives an area, inside a pencil's clip, the words of a raster operation of two inks and the picture. A drawing call takes area, code and
+// inks one by one, as its callers have them: a struct would be made at each call and taken apart in it.
 pub fn blend<S: Surface, P: Ink, Q: Ink>(
     surface: &mut S,
     pencil: &Pencil,

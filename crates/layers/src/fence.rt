@@ -29,7 +29,7 @@ impl<S: Surface> Fence<S> {
         self.rect
     }
 
-    // By hand in each layer: each takes its own fields apart, and a trait would have the same lines again.
+    // `new` and this by hand in each layer: each has its own fields, and a trait would have the same lines again.
     pub fn into_below(self) -> S
         ensures { result ≡ self.below }
     {

@@ -38,6 +38,7 @@ impl<S: Surface> Meter<S> {
         self.kept = None;
     }
 
+    // By hand, as in the other layers: each has its own fields.
     pub fn into_below(self) -> S
         ensures { result ≡ self.below }
     {

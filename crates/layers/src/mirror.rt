@@ -20,6 +20,7 @@ impl<S: Surface> Mirror<S> {
         Mirror { below }
     }
 
+    // By hand, as in the other layers: each has its own fields.
     pub fn into_below(self) -> S
         ensures { result ≡ self.below }
     {

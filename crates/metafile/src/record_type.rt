@@ -1,23 +1,23 @@
 ghost use Rattle.std.specs.Prelude.{◌≡◌, MatchOption, MatchResult};
 ghost use Rattle.metafile.specs.Functions.{Listed, Named, function_of};
 
-// The functions of the record table, by their published names and numbers.
+// The functions of the record table, by their published names.
 #[derive(Clone, Copy, PartialEq, Eq, Debug)]
 pub enum RecordType {
-    Eof = 0x0000,
-    SetRop2 = 0x0104,
-    SelectObject = 0x012D,
-    DeleteObject = 0x01F0,
-    SetBkColor = 0x0201,
-    SetWindowOrg = 0x020B,
-    SetViewportOrg = 0x020D,
-    LineTo = 0x0213,
-    MoveTo = 0x0214,
-    CreatePenIndirect = 0x02FA,
-    CreateBrushIndirect = 0x02FC,
-    IntersectClipRect = 0x0416,
-    PatBlt = 0x061D,
-    BitBlt = 0x0922,
+    Eof,
+    SetRop2,
+    SelectObject,
+    DeleteObject,
+    SetBkColor,
+    SetWindowOrg,
+    SetViewportOrg,
+    LineTo,
+    MoveTo,
+    CreatePenIndirect,
+    CreateBrushIndirect,
+    IntersectClipRect,
+    PatBlt,
+    BitBlt,
 }
 
 // A function that is not in the record table.

@@ -75,7 +75,7 @@ impl StepFault {
     }
 }
 
-// NUMBER at byte PLACE (LAYER): CAUSE.
+// NUMBER at byte PLACE (LAYER): CAUSE. By hand, since a derived Display states no text.
 impl fmt::Display for StepFault {
     ghost output = { λ fault. Some (fault_text fault) };
 
