@@ -13,8 +13,8 @@ HEAD = """# Planted bugs
 
 Each row is a bug that was planted in the code, alone, and that the prover refuses: a contract no longer holds. Those of the first
 kind are tried by the gate each time (`crates/NAME/must-fail/`); the others were tried once, in the code as it stood then, and left out,
-since each costs a whole check of its crate. A bug in what a program prints is beyond every contract; the programs' stored outputs and [the checks](checks.md) are for
-that. This page is written by `tools/make_planted_bugs.py`.
+since each costs a whole check of its crate. A bug in what a program prints is beyond every contract; the programs' stored outputs and
+[the checks](checks.md) are for that. This page is written by `tools/make_planted_bugs.py`.
 
 {gate} are tried by the gate, {once} were tried once.
 """
