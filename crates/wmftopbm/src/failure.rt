@@ -14,5 +14,12 @@ pub(crate) enum Failure {
     #[error("wmftopbm: out of memory")]
     Memory(#[from] AllocError),
     #[error("wmftopbm: reading or writing failed")]
-    InOrOut(#[from] io::Error),
+    InOrOut,
+}
+
+// By hand: a derived one keeps the error in its case, and with it what is assumed of the texts that the system has for errors.
+impl From<io::Error> for Failure {
+    fn from(_error: io::Error) -> Failure {
+        Failure::InOrOut
+    }
 }
