@@ -7,7 +7,7 @@ use Rattle.std.proofs.lemmas.Bool.Decides.{nat_tests}
 use Rattle.surface.specs.Meaning.{spans, inside, strip}
 use Rattle.raster.specs.Bits.{among}
 use Rattle.raster.specs.Laid.{in_row, natural}
-use Rattle.raster.specs.Layout.{has_row, has, laid, Redrawn, row_there}
+use Rattle.raster.specs.Layout.{has_row, has, Redrawn, row_there}
 
 and_true : (t : Bool) → (t && true) ≡ t
 and_true true = refl
@@ -34,10 +34,6 @@ pub row_of : (p i Y : ℕ) → 0 < p → i / p ≡ Y → (Y * p ≤ i) × (i < Y
 row_of p i Y s e = let q = rw e at (div-add-mod' i p) in let r = mod_below i p s in (omega arith, omega arith)
 
 module _ (w h p d : ℕ) (there : ℤ → Bool) (Y : ℕ) (row : has_row h there (pos Y) ≡ true) where
-  -- the word of a cell of row Y
-  pub word_of : (unit : ℕ → ℕ) (x : ℕ) → x < w → unit (Y * p + x) ≡ (laid w h p d there unit).word (pos x) (pos Y)
-  word_of unit x lt = let t : spans (pos 0) w (pos x) ≡ true = grind (arith, nat_tests) in cc
-
   -- the columns from..to of row Y
   module _ (wp : w ≤ p) (from to : ℕ) (ft : from ≤ to) (tw : to ≤ w) where
     module _ (i : ℕ) where

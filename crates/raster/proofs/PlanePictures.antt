@@ -10,9 +10,6 @@ use Rattle.raster.specs.Packing.{stride}
 use Rattle.raster.specs.Planar.{plane, planes_there, planar_needs, Planed, PlanesDrawn}
 use Rattle.raster.proofs.Layouts.{row_of, reach}
 
-pub planed_none : (n a b v : ℕ) (m : List ℕ) → Planed n a b v 0 m m
-planed_none n a b v m = record { bits = λ i. let t : ltb (i / n) 0 ≡ false = grind (arith, nat_tests) in rw t }
-
 -- one plane more
 module _ (n a b v k : ℕ) (t : Bool) (old mid new : List ℕ) (bn : b ≤ n) (bit : cond t 1 0 ≡ v / 2 ^ k % 2) (p : Planed n a b v k old mid) (q : Painted mid (k * n + a) (k * n + b) t new) where
   abbrev More : ℕ → Type 0
