@@ -1,6 +1,6 @@
 -- Sweeps over places, and copies in their order.
 use Rattle.std.proofs.Common.{◌≡◌, ℕ, Bool, true, false, not, ◌&&◌, ◌||◌, ℤ, pos, ◌+ℤ◌, ◌≤ℤ◌, ◌<ℤ◌, ap, ◌∙◌, refl, arith}
-use lib.Signed.{lt_z}
+use lib.Signed.{le_z, lt_z}
 use Rattle.std.proofs.Math.Bool.{and-or_distrib_right, and_comm}
 use Rattle.std.proofs.lemmas.Int.{ints}
 use Rattle.std.proofs.lemmas.Bool.{and_parts}
@@ -38,6 +38,9 @@ sweeps l r s e backwards f g = record { first = omega (arith, ints); last = omeg
 
 pub none_done : (l r s e z : ℤ) → s ≡ l → e ≡ r → done l r s e z ≡ false
 none_done l r s e z f g = grind (arith, ints)
+
+pub no_place : (l r z : ℤ) → le_z r l ≡ true → between l r z ≡ false
+no_place l r z h = grind (arith, ints)
 
 pub all_done : (l r s e z : ℤ) → e ≤ℤ s → done l r s e z ≡ between l r z
 all_done l r s e z h = grind (arith, ints)

@@ -55,6 +55,10 @@ impl<I: Ink> Copying<'_, I> {
         ensures { Draws S.means S.keeps S.rest (holds self.now.target) (copied self.now.code (I.shade self.now.ink.now) self.now.shift.dx self.now.shift.dy)
             surface.old surface.new }
     {
+        // Without columns no row has a cell: the rows are not gone through.
+        if self.target.left >= self.target.right {
+            return;
+        }
         let rows = Sweep {
             places: self.target.top..self.target.bottom,
             backwards: self.shift.dy < 0,

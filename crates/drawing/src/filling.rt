@@ -29,7 +29,8 @@ impl<P: Ink, Q: Ink> Operation<'_, P, Q> {
         Some(combine(self.code, self.pattern.solid()?, self.source.solid()?, 0))
     }
 
-    // The word that it gives a cell, from the picture's.
+    // The word that it gives a cell, from the picture's. Inlined: in a library over three layouts it would be called at each cell.
+    #[inline(always)]
     fn word(&self, x: i32, y: i32, picture: u16) -> u16
         ensures { result ≡ combined self.now.code (P.shade self.now.pattern.now x y) (Q.shade self.now.source.now x y) picture }
     {

@@ -15,7 +15,9 @@ use crate::record_type::{RecordType, UnlistedFunction};
 use codes::{LineMode, Refusal, depends_on_source};
 use pencil::{Brush, Pen};
 
-// What a framed record asks for, or the first rule that it breaks.
+// What a framed record asks for, or the first rule that it breaks. Inlined where it is played, so that a record is not put together in
+// memory and read back.
+#[inline(always)]
 pub fn decode<'a>(frame: Frame<'a>) -> Result<Record<'a>, Refusal>
     ensures { MatchResult result (Shows frame.entry.function frame.entry.parameters.now) (Breaks frame.entry.function frame.entry.parameters.now) }
 {
@@ -34,7 +36,8 @@ pub fn decoding_is_exact()
     ensures { Exact }
 {}
 
-// What the parameters of a listed function ask for.
+// What the parameters of a listed function ask for. Inlined as `decode`.
+#[inline(always)]
 fn listed(record_type: RecordType, p: &[u8]) -> Result<Record<'_>, Refusal>
     ensures { MatchResult result (Shows (function_of record_type) p.now) (Breaks (function_of record_type) p.now) }
 {

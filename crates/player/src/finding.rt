@@ -12,7 +12,8 @@ pub(crate) struct Found<'a> {
     pub end: usize,
 }
 
-// What lies at a place of a file that ends with its bytes.
+// What lies at a place of a file that ends with its bytes. Inlined as `decode`.
+#[inline(always)]
 pub(crate) fn find(bytes: &[u8], place: usize) -> Result<Found<'_>, FileFault>
     ensures { MatchResult result (FoundAt bytes.now place) (Unframed bytes.now place) }
 {

@@ -32,7 +32,8 @@ pub fn start<'a>(checked: Checked<'a>) -> Run<'a>
 
 // Each call that steps a run says that its bytes stay: a type says nothing of two values, and a name for the equation is no plainer.
 impl<'a> Run<'a> {
-    // Plays what was found at the place.
+    // Plays what was found at the place. Inlined as `decode`.
+    #[inline(always)]
     fn obey<S: Surface>(&mut self, found: Found<'_>, surface: &mut S) -> Result<Answer, StepFault>
         requires { self.old.progress.place < found.end }
         ensures bytes { self.new.bytes.now ≡ self.old.bytes.now }

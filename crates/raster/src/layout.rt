@@ -8,10 +8,11 @@ use std::ops::Range;
 // Shows that a raster makes a call. Only this crate can make one, so that the calls of `Storage` are a raster's alone, which knows that
 // its memory is long enough and its cells are inside.
 #[derive(Clone, Copy)]
-pub struct Access(pub(crate) ());
+pub(crate) struct Access(pub(crate) ());
 
-// How the cells of a picture lie in a memory: where a raster finds its bits.
-pub trait Storage {
+// How the cells of a picture lie in a memory: where a raster finds its bits. Of this crate alone: its calls ask something of their caller,
+// and no public function does.
+pub(crate) trait Storage {
     // The bits of a cell.
     const DEPTH: u8;
 

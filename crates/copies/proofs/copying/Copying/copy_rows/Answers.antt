@@ -3,8 +3,23 @@ use Rattle.std.proofs.Math.Bool.{and_comm}
 use Rattle.std.proofs.lemmas.Int.{to_z-of_z}
 use Rattle.surface.proofs.Strokes.{drawn-none, drawn_like}
 use Rattle.drawing.specs.Areas.{between}
-use Rattle.copies.proofs.Sweeps.{all_done, row_step, next_is, none_done, sweeps, sweeps_on}
+use Rattle.copies.proofs.Sweeps.{all_done, no_place, row_step, next_is, none_done, sweeps, sweeps_on}
 use Rattle.copies.proofs.copying.Copying.copy_rows.Goals as goal
+
+pub returns-then-self : goal.returns-then-self
+returns-then-self g c =
+    let q = c.args.self.now.target in
+    let l : SFits w32 c.args.self.now.target.left = search rules in
+    let r : SFits w32 c.args.self.now.target.right = search rules in
+    drawn-none _ _ _ _ _ (λ a b. ap (λ t. t && between q.top q.bottom b) (no_place q.left q.right a (simp to_z-of_z at c.if-self.true)))
+
+pub copy_row-requires : goal.copy_row-requires
+copy_row-requires g c =
+    let f : SFits w32 c.in-Some.y = search rules in
+    let i = c.loop-y.invariant in
+    let t = c.in-Some.ensures.steps in
+    let n = next_is _ _ c.args.self.now.shift.dy _ _ _ _ _ _ i.way i.sweeping t.1.0 t.1.1 in
+    simp to_z-of_z n.here
 
 pub loop-y-init : goal.loop-y-init
 loop-y-init g c =
