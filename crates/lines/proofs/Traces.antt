@@ -1,12 +1,13 @@
 -- Lines.
 use Rattle.std.proofs.Common.{◌≡◌, ℕ, zero, suc, ◌+◌, ◌-◌, ◌*◌, ◌/◌, ◌%◌, ◌<◌, ◌≤◌, Bool, true, false, cond, ◌&&◌, ◌||◌, leb, ℤ, pos, ◌+ℤ◌, ◌-ℤ◌, nat_abs, ◌≤ℤ◌, ◌<ℤ◌, sym, refl, ap, ◌∙◌, subst, inl, inr, mul_assoc, div-lt_iff_lt-mul, add-mul, zero-add, mul_left_comm, arith, w32, w64, SFits}
-use Rattle.std.proofs.Math.Bool.{and-or_distrib_right}
+use Rattle.std.proofs.Math.Bool.{and-false, and-or_distrib_right}
 use Rattle.drawing.proofs.Cuts.{le_z_max, lt_z_min}
 use lib.Signed.{le_z, lt_z}
 use Rattle.std.specs.Int.{int_max, int_min}
 use Rattle.std.proofs.lemmas.Int.{ints}
-use Rattle.std.proofs.lemmas.Bool.{false_from_ne_true, cond-true, cond-false, le-leb, lt-leb, and_left, and_right, or_from, and_parts, cases_eq}
+use Rattle.std.proofs.lemmas.Bool.{false_from_ne_true, cond-true, cond-false, le-leb, lt-leb, and_left, and_right, or_from, and_parts, cases_eq, cases_lt}
 use Rattle.std.proofs.lemmas.Nat.{div-mul-add, div-add-mod', mod_below, mul-le}
+use Rattle.std.proofs.Math.Nat.{mul-le-mul_right}
 use Rattle.codes.specs.Modes.{mode_number}
 use Rattle.codes.specs.Operations.{mixed}
 use Rattle.codes.specs.declared.mode.LineMode.{LineMode}
@@ -98,6 +99,10 @@ module _ (p q : Point) (rect : Rect) where
   pub trace_empty : (first last : ℕ) → Meets p q rect first last → last ≤ first → (a b : ℤ) → (traced p q (longer p q) a b && holds rect a b) ≡ false
   trace_empty first last m h = traced-none (longer p q) (λ j l. false_from_ne_true _ (λ t. let f = m.places j _ l t in omega arith))
 
+  -- a line that lies on one side of a rectangle
+  pub trace_missed : ((i : ℕ) → i < longer p q → holds rect (spot p q i).x (spot p q i).y ≡ false) → (a b : ℤ) → (traced p q (longer p q) a b && holds rect a b) ≡ false
+  trace_missed h = traced-none (longer p q) h
+
   module _ {R : Type 0} (mode : LineMode) (ink : ℕ) (m m' m'' : Meaning) (k k' k'' : Keep) (z z' z'' : R) where
     split : (n : ℕ) (c : Point) → c ≡ spot p q n → (a b : ℤ)
         → (traced p q (suc n) a b && holds rect a b) ≡ ((traced p q n a b && holds rect a b) || (strip c.x c.y 1 a b && holds rect a b))
@@ -116,6 +121,39 @@ module _ (p q : Point) (rect : Rect) where
         → Drawn (λ a b. traced p q n' a b && holds rect a b) (mixing mode ink m) m k z m'' k'' z''
     trace_step n n' c en is d e =
         simp en (local_more _ _ _ (λ _ _ d. mixed (mode_number mode) ink d) m m' m'' k k' k'' z z' z'' (split n c is) (fresh n c is) d e)
+
+-- a line leads no further aside than to its end
+aside-near : (i short long : ℕ) → i < long → short ≤ long → (2 * (i * short) + long) / (2 * long) ≤ short
+aside-near i short long h k =
+    let m : (i + 1) * short ≤ long * short = mul-le-mul_right short (omega arith) in
+    let d : (2 * (i * short) + long) / (2 * long) < short + 1 = (div-lt_iff_lt-mul {k = 2 * long} (omega arith)).1 (omega (arith, add-mul i 1 short, add-mul short 1 (2 * long), mul_left_comm short 2 long)) in
+    omega arith
+
+-- a way that lies before a range, or behind it
+pub way_before : (a b s e m : ℤ) → m ≡ int_max a b → lt_z m s ≡ true → (n : ℕ) → n ≤ nat_abs (a -ℤ b) → between s e (toward a b n) ≡ false
+way_before a b s e m f t n h = grind (arith, ints)
+
+pub way_behind : (a b s e m : ℤ) → m ≡ int_min a b → le_z e m ≡ true → (n : ℕ) → n ≤ nat_abs (a -ℤ b) → between s e (toward a b n) ≡ false
+way_behind a b s e m f t n h = grind (arith, ints)
+
+-- and a line whose way across or down misses a rectangle
+pub missed_across : (p q : Point) (r : Rect) → ((n : ℕ) → n ≤ columns p q → between r.left r.right (toward p.x q.x n) ≡ false)
+    → (i : ℕ) → i < longer p q → holds r (spot p q i).x (spot p q i).y ≡ false
+missed_across p q r h i l =
+    let a = aside-near i (shorter p q) (longer p q) l (omega arith) in
+    elim (cases_lt (columns p q) (rows p q)) [
+      | inr w ↦ let e = h i (omega arith) in let t : leb (rows p q) (columns p q) ≡ true = le-leb _ _ w in rw t (rw e refl)
+      | inl w ↦ let e = h ((2 * (i * shorter p q) + longer p q) / (2 * longer p q)) (omega arith) in let t : leb (rows p q) (columns p q) ≡ false = lt-leb _ _ w in rw t (rw e refl)
+    ]
+
+pub missed_down : (p q : Point) (r : Rect) → ((n : ℕ) → n ≤ rows p q → between r.top r.bottom (toward p.y q.y n) ≡ false)
+    → (i : ℕ) → i < longer p q → holds r (spot p q i).x (spot p q i).y ≡ false
+missed_down p q r h i l =
+    let a = aside-near i (shorter p q) (longer p q) l (omega arith) in
+    elim (cases_lt (columns p q) (rows p q)) [
+      | inr w ↦ let e = h ((2 * (i * shorter p q) + longer p q) / (2 * longer p q)) (omega arith) in let t : leb (rows p q) (columns p q) ≡ true = le-leb _ _ w in rw t (rw e (and-false _))
+      | inl w ↦ let e = h i (omega arith) in let t : leb (rows p q) (columns p q) ≡ false = lt-leb _ _ w in rw t (rw e (and-false _))
+    ]
 
 -- the cell that lies so far aside
 pub spot_is : (p q c : Point) (along n aside rest : ℕ) → Aside (shorter p q) (longer p q) n aside rest → along ≡ n → c ≡ place p q along aside → c ≡ spot p q n

@@ -45,7 +45,9 @@ impl Course {
         }
     }
 
-    // The part of a segment that can lie in a rectangle; None where no part can.
+    // The part of a segment that can lie in a rectangle; None where no part can. Inlined, so that a course is not put together in memory
+    // and read back.
+    #[inline(always)]
     pub(crate) fn within(segment: Segment, rect: Rect) -> Option<Course>
         ensures { MatchOption result (Meets segment.from segment.to rect 0 0)
             (λ c. (c.segment ≡ segment) × (c.places.start < c.places.end) × Meets segment.from segment.to rect c.places.start c.places.end) }

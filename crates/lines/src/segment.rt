@@ -1,7 +1,8 @@
-ghost use Rattle.std.specs.Prelude.{◌≡◌, ℕ, ◌<◌, ◌≤◌, true, false, ◌&&◌, pos, ◌≤ℤ◌, ◌<ℤ◌, MatchResult};
+ghost use Rattle.std.specs.Prelude.{◌≡◌, ℕ, ◌<◌, ◌≤◌, true, false, ◌&&◌, pos, ◌-ℤ◌, ◌≤ℤ◌, ◌<ℤ◌, unsigned_abs, MatchResult};
 ghost use Rattle.codes.specs.declared.refusal.Refusal.TheVariants as refusal;
 ghost use Rattle.drawing.specs.Areas.{between, coordinate, placed};
-ghost use Rattle.drawing.specs.Lines.{columns, longer, place, rows, shorter, toward};
+ghost use Rattle.surface.specs.Rects.{holds};
+ghost use Rattle.drawing.specs.Lines.{columns, longer, place, rows, shorter, spot, toward};
 ghost use Rattle.lines.specs.Courses.{Meets};
 
 use codes::Refusal;
@@ -70,6 +71,14 @@ impl Segment {
         }
     }
 
+    // Whether the line lies on one side of a rectangle, so that it has no cell there.
+    pub(crate) fn misses(&self, rect: Rect) -> bool
+        ensures { result ≡ true → (i : ℕ) → i < longer self.now.from self.now.to → holds rect (spot self.now.from self.now.to i).x (spot self.now.from self.now.to i).y ≡ false }
+    {
+        misses(self.from.x, self.to.x, rect.left..rect.right)
+            || misses(self.from.y, self.to.y, rect.top..rect.bottom)
+    }
+
     // The places along the longer way at which the line can lie in a rectangle.
     pub(crate) fn stretch(&self, rect: Rect) -> Range<u32>
         ensures { Meets self.now.from self.now.to rect result.start result.end }
@@ -99,6 +108,13 @@ fn limit(z: i64, most: u32) -> u32
     ensures most { result ≤ most }
 {
     z.clamp(0, i64::from(most)) as u32
+}
+
+// Whether the way from a to b lies on one side of a range.
+fn misses(a: i32, b: i32, range: Range<i32>) -> bool
+    ensures { result ≡ true → (n : ℕ) → n ≤ unsigned_abs (a -ℤ b) → between range.start range.end (toward a b n) ≡ false }
+{
+    a.max(b) < range.start || range.end <= a.min(b)
 }
 
 // The places at which the way from a towards b, `length` places long, lies in a range.

@@ -39,6 +39,9 @@ impl Stroke {
             (λ a b. traced segment.from segment.to (longer segment.from segment.to) a b && holds self.rect a b)
             (mixing self.mode self.colour) surface.old surface.new }
     {
+        if segment.misses(self.rect) {
+            return;
+        }
         let Some(course) = Course::within(segment, self.rect) else {
             return;
         };

@@ -3,8 +3,11 @@ use Rattle.surface.specs.Rects.{holds}
 use Rattle.surface.proofs.Strokes.{drawn-none, drawn_like}
 use Rattle.drawing.specs.Lines.{spot, traced}
 use Rattle.lines.specs.Courses.{Meets}
-use Rattle.lines.proofs.Traces.{trace_none, trace_all, trace_empty, trace_step}
+use Rattle.lines.proofs.Traces.{trace_none, trace_all, trace_empty, trace_missed, trace_step}
 use Rattle.lines.proofs.tracing.Stroke.trace.Goals as goal
+
+pub returns-then-misses : goal.returns-then-misses
+returns-then-misses g c = drawn-none _ _ _ _ _ (trace_missed c.args.segment.from c.args.segment.to c.args.self.rect (c.misses.ensures c.if-misses.true))
 
 pub returns-in_default : goal.returns-in_default
 returns-in_default g c = drawn-none _ _ _ _ _ (trace_empty c.args.segment.from c.args.segment.to c.args.self.rect 0 0 c.in_default.ensures (omega arith))
